@@ -1,0 +1,1 @@
+// Nothing runs here: this crate holds the definitions and laws that every layer above cites.

@@ -1,0 +1,337 @@
+// Words of document 01: the tokens of "simple".
+ghost use mathlib.Core.Path.{_≡_};
+ghost use Rattle.tokenizer.specs.Word.{isWord, fold, nextWord, Next};
+
+// Document 01's bound on a word.
+pub const MAX_WORD: usize = 64;
+
+// What a word byte's entry has above its folded form.
+const WORD: u16 = 256;
+
+// Each byte's folded form, and WORD more if it is a word byte.
+const BYTES: [u16; 256] = [
+    0,
+    1,
+    2,
+    3,
+    4,
+    5,
+    6,
+    7,
+    8,
+    9,
+    10,
+    11,
+    12,
+    13,
+    14,
+    15,
+    16,
+    17,
+    18,
+    19,
+    20,
+    21,
+    22,
+    23,
+    24,
+    25,
+    26,
+    27,
+    28,
+    29,
+    30,
+    31,
+    32,
+    33,
+    34,
+    35,
+    36,
+    37,
+    38,
+    39,
+    40,
+    41,
+    42,
+    43,
+    44,
+    45,
+    46,
+    47,
+    304,
+    305,
+    306,
+    307,
+    308,
+    309,
+    310,
+    311,
+    312,
+    313,
+    58,
+    59,
+    60,
+    61,
+    62,
+    63,
+    64,
+    353,
+    354,
+    355,
+    356,
+    357,
+    358,
+    359,
+    360,
+    361,
+    362,
+    363,
+    364,
+    365,
+    366,
+    367,
+    368,
+    369,
+    370,
+    371,
+    372,
+    373,
+    374,
+    375,
+    376,
+    377,
+    378,
+    91,
+    92,
+    93,
+    94,
+    95,
+    96,
+    353,
+    354,
+    355,
+    356,
+    357,
+    358,
+    359,
+    360,
+    361,
+    362,
+    363,
+    364,
+    365,
+    366,
+    367,
+    368,
+    369,
+    370,
+    371,
+    372,
+    373,
+    374,
+    375,
+    376,
+    377,
+    378,
+    123,
+    124,
+    125,
+    126,
+    127,
+    384,
+    385,
+    386,
+    387,
+    388,
+    389,
+    390,
+    391,
+    392,
+    393,
+    394,
+    395,
+    396,
+    397,
+    398,
+    399,
+    400,
+    401,
+    402,
+    403,
+    404,
+    405,
+    406,
+    407,
+    408,
+    409,
+    410,
+    411,
+    412,
+    413,
+    414,
+    415,
+    416,
+    417,
+    418,
+    419,
+    420,
+    421,
+    422,
+    423,
+    424,
+    425,
+    426,
+    427,
+    428,
+    429,
+    430,
+    431,
+    432,
+    433,
+    434,
+    435,
+    436,
+    437,
+    438,
+    439,
+    440,
+    441,
+    442,
+    443,
+    444,
+    445,
+    446,
+    447,
+    448,
+    449,
+    450,
+    451,
+    452,
+    453,
+    454,
+    455,
+    456,
+    457,
+    458,
+    459,
+    460,
+    461,
+    462,
+    463,
+    464,
+    465,
+    466,
+    467,
+    468,
+    469,
+    470,
+    471,
+    472,
+    473,
+    474,
+    475,
+    476,
+    477,
+    478,
+    479,
+    480,
+    481,
+    482,
+    483,
+    484,
+    485,
+    486,
+    487,
+    488,
+    489,
+    490,
+    491,
+    492,
+    493,
+    494,
+    495,
+    496,
+    497,
+    498,
+    499,
+    500,
+    501,
+    502,
+    503,
+    504,
+    505,
+    506,
+    507,
+    508,
+    509,
+    510,
+    511,
+];
+
+// What stands at or after a place of a text.
+pub enum Word {
+    // A word of 1 to MAX_WORD bytes, from `start` up to `end`.
+    Found { start: usize, end: usize },
+    // A longer word.
+    Overlong { start: usize, end: usize },
+    Nothing,
+}
+
+// Whether a byte is part of words.
+pub fn is_word(b: u8) -> bool
+    ensures { λ r. ⌜ r ≡ isWord b ⌝ }
+{
+    let at = b as usize;
+    WORD <= BYTES[at]
+}
+
+// A byte's folded form: A to Z become a to z.
+pub fn folded(b: u8) -> u8
+    ensures { λ r. ⌜ r ≡ fold b ⌝ }
+{
+    let at = b as usize;
+    (BYTES[at] % WORD) as u8
+}
+
+// The first place from `at` on whose byte is no separator, or the text's length.
+fn skip_separators(s: &[u8], at: usize) -> usize
+{
+    let mut i = at;
+    while i < s.len() {
+        if is_word(s[i]) {
+            return i;
+        }
+        i += 1;
+    }
+    i
+}
+
+// The first place from `at` on whose byte is no word byte, or the text's length.
+fn skip_word(s: &[u8], at: usize) -> usize
+{
+    let mut i = at;
+    while i < s.len() {
+        if is_word(s[i]) {
+            i += 1;
+        } else {
+            return i;
+        }
+    }
+    i
+}
+
+// The next word at or after a place.
+pub fn next_word(s: &[u8], at: usize) -> Word
+    ensures reader { λ r. ⌜ r ≡ nextWord (now (s .entry)) at ⌝ }
+    ensures next { λ r. ⌜ Next (now (s .entry)) at r ⌝ }
+{
+    let start = skip_separators(s, at);
+    if s.len() <= start {
+        return Word::Nothing;
+    }
+    let end = skip_word(s, start);
+    if end - start <= MAX_WORD {
+        return Word::Found { start, end };
+    }
+    Word::Overlong { start, end }
+}

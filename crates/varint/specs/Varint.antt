@@ -1,0 +1,62 @@
+-- Stored numbers (document 01, "Stored numbers"; the field calls them FTS varints). A number is stored seven bits to a
+-- byte, the lowest first; every byte but the last has its top bit set; the shortest form is the only one. The largest
+-- number of bytes is a parameter, `most`; document 01 sets it to nine, for the values 0 to 2^63 - 1.
+use Prim.Native.Nat.{ℕ, zero, suc, _+_, _-_, _*_, _/_, _%_, _^_, _<_}
+use mathlib.Core.Path.{_≡_}
+use mathlib.Core.List.{List, [], _∷_, _++_}
+use lib.ListN.{length, getD, drop}
+use lib.Dec.{ltb, leb, eqb}
+use Rattle.common.specs.Pick.{pick}
+use Rattle.common.specs.Bytes.{over}
+use Rattle.varint.specs.declared.Varint.{Varint}
+use Rattle.varint.specs.declared.Varint.the-variants.{Value, Refused}
+use Rattle.varint.specs.declared.Written.{Written}
+use Rattle.varint.specs.declared.Written.the-variants.{Bytes, NoRoom, TooLarge}
+
+-- ---- how a number is stored
+
+-- in at most `most` bytes
+unfoldable pub encodeIn : ℕ → ℕ → List ℕ
+encodeIn zero v = []
+encodeIn (suc most) v = pick (ltb v 128) (v ∷ []) ((128 + v % 128) ∷ encodeIn most (v / 128))
+
+-- one to nine bytes
+abbrev pub maxBytes : ℕ
+maxBytes = 9
+
+abbrev pub encode : ℕ → List ℕ
+encode v = encodeIn maxBytes v
+
+-- the bytes of `s` from the place `at` up to the place `next` are `v`, stored
+pub record StoredAt (most : ℕ) (s : List ℕ) (at v next : ℕ) : Type 0 where
+  pub small : v < 128 ^ most
+  pub ends : next ≡ at + length (encodeIn most v)
+  pub bytes : drop at s ≡ encodeIn most v ++ drop next s
+
+-- ---- what reading at a place gives
+
+-- at most `left` bytes from the place `i` on, where `value` was read before and the next byte counts `scale` fold
+unfoldable pub readFrom : ℕ → List ℕ → ℕ → ℕ → ℕ → Varint
+readFrom zero s i value scale = Refused
+readFrom (suc left) s i value scale =
+    pick (ltb i (length s))
+    (pick (ltb (getD s i 0) 128)
+    (pick (ltb 0 (getD s i 0)) (Value (value + getD s i 0 * scale) (i + 1)) (pick (eqb scale 1) (Value value (i + 1)) Refused))
+    (pick (ltb (getD s i 0) 256) (readFrom left s (i + 1) (value + (getD s i 0 - 128) * scale) (scale * 128)) Refused))
+    Refused
+
+abbrev pub readIn : ℕ → List ℕ → ℕ → Varint
+readIn most s at = readFrom most s at 0 1
+
+abbrev pub readAt : List ℕ → ℕ → Varint
+readAt s at = readIn maxBytes s at
+
+-- ---- what writing to the front of a room gives
+
+abbrev pub writtenOf : ℕ → List ℕ → Written
+writtenOf v room =
+    pick (ltb v (2 ^ 63)) (pick (leb (length (encode v)) (length room)) (Bytes (length (encode v))) (NoRoom (length (encode v)))) TooLarge
+
+-- the number and then the rest of the room as it was; a refusal leaves all of it as it was
+abbrev pub roomAfter : ℕ → List ℕ → List ℕ
+roomAfter v room = pick (ltb v (2 ^ 63)) (pick (leb (length (encode v)) (length room)) (over (encode v) room) room) room

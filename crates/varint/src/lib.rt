@@ -1,0 +1,102 @@
+// Stored numbers of document 01: FTS varints of one to nine bytes, 0 to 2^63 - 1, shortest form only.
+//
+//     byte 0      byte 1            last byte
+//     1xxxxxxx    1xxxxxxx    ..    0xxxxxxx     seven bits to a byte, the lowest first
+ghost use mathlib.Core.Path.{_≡_};
+ghost use mathlib.Core.Logic.{_↔_};
+ghost use Prim.Native.Nat.{ℕ};
+ghost use lib.ListN.{length};
+ghost use Rattle.varint.specs.Varint.{maxBytes, encode, StoredAt, readAt, writtenOf, roomAfter};
+
+// The largest number of bytes that a number takes.
+pub const MAX_BYTES: usize = 9;
+
+// One above the largest number that can be stored.
+pub const LIMIT: u64 = 0x8000_0000_0000_0000;
+
+pub enum Varint {
+    // The number, and the place after its last byte.
+    Value { value: u64, next: usize },
+    // No number is stored there in its shortest form.
+    Refused,
+}
+
+pub enum Written {
+    // How many bytes the number took.
+    Bytes(usize),
+    // How many bytes it needs.
+    NoRoom(usize),
+    // The number is 2^63 or more.
+    TooLarge,
+}
+
+// The number that is stored from the place `at` on.
+pub fn read(s: &[u8], at: usize) -> Varint
+    ensures reader { λ r. ⌜ r ≡ readAt (now (s .entry)) at ⌝ }
+    ensures stored { λ r. ⌜ ((v next : ℕ) → (r ≡ Varint.Value v next) ↔ StoredAt maxBytes (now (s .entry)) at v next) ⌝ }
+{
+    let mut value: u64 = 0;
+    let mut scale: u64 = 1;
+    let mut i = at;
+    let mut left = MAX_BYTES;
+    while 0 < left {
+        if s.len() <= i {
+            return Varint::Refused;
+        }
+        let b = s[i] as u64;
+        if b < 128 {
+            if 0 < b {
+                return Varint::Value {
+                    value: value + b * scale,
+                    next: i + 1,
+                };
+            }
+            if scale == 1 {
+                return Varint::Value { value, next: i + 1 };
+            }
+            return Varint::Refused;
+        }
+        value += (b - 128) * scale;
+        scale *= 128;
+        i += 1;
+        left -= 1;
+    }
+    Varint::Refused
+}
+
+// How many bytes a number takes.
+pub fn size(v: u64) -> usize
+    ensures { λ r. ⌜ r ≡ length (encode v) ⌝ }
+{
+    let mut rest = v;
+    let mut n: usize = 1;
+    while 128 <= rest && n < MAX_BYTES {
+        rest /= 128;
+        n += 1;
+    }
+    n
+}
+
+// Puts the number at the front of the room, or answers what is wrong and leaves the room as it was.
+pub fn write(room: &mut [u8], v: u64) -> Written
+    ensures { λ r. ⌜ (r ≡ writtenOf v (now (room .entry))) × (now (room .exit) ≡ roomAfter v (now (room .entry))) ⌝ }
+{
+    if LIMIT <= v {
+        return Written::TooLarge;
+    }
+    let n = size(v);
+    if room.len() < n {
+        return Written::NoRoom(n);
+    }
+    let mut rest = v;
+    let mut i: usize = 0;
+    while 128 <= rest && i < room.len() {
+        room[i] = (128 + rest % 128) as u8;
+        rest /= 128;
+        i += 1;
+    }
+    if i < room.len() {
+        room[i] = (rest % 128) as u8;
+    }
+    Written::Bytes(n)
+}
