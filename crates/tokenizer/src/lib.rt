@@ -1,6 +1,9 @@
 // Words of document 01: the tokens of "simple".
 ghost use mathlib.Core.Path.{_≡_};
-ghost use Rattle.tokenizer.specs.Word.{isWord, fold, nextWord, Next};
+ghost use Prim.Native.Nat.{_+_};
+ghost use lib.ListN.{drop};
+ghost use Rattle.common.specs.Bytes.{span};
+ghost use Rattle.tokenizer.specs.Word.{isWord, fold, entryOf, wordStart, nextWord, Next};
 
 // Document 01's bound on a word.
 pub const MAX_WORD: usize = 64;
@@ -58,7 +61,7 @@ const BYTES: [u16; 256] = [
     45,
     46,
     47,
-    304,
+    304, // 0
     305,
     306,
     307,
@@ -67,7 +70,7 @@ const BYTES: [u16; 256] = [
     310,
     311,
     312,
-    313,
+    313, // 9
     58,
     59,
     60,
@@ -75,7 +78,7 @@ const BYTES: [u16; 256] = [
     62,
     63,
     64,
-    353,
+    353, // A
     354,
     355,
     356,
@@ -100,14 +103,14 @@ const BYTES: [u16; 256] = [
     375,
     376,
     377,
-    378,
+    378, // Z
     91,
     92,
     93,
     94,
-    95,
+    95, // _
     96,
-    353,
+    353, // a
     354,
     355,
     356,
@@ -132,13 +135,13 @@ const BYTES: [u16; 256] = [
     375,
     376,
     377,
-    378,
+    378, // z
     123,
     124,
     125,
     126,
     127,
-    384,
+    384, // 128
     385,
     386,
     387,
@@ -265,7 +268,7 @@ const BYTES: [u16; 256] = [
     508,
     509,
     510,
-    511,
+    511, // 255
 ];
 
 // What stands at or after a place of a text.
@@ -274,27 +277,34 @@ pub enum Word {
     Found { start: usize, end: usize },
     // A longer word.
     Overlong { start: usize, end: usize },
+    // No word byte.
     Nothing,
+}
+
+// A byte's entry: the one place that reads the table.
+fn entry(b: u8) -> u16
+    ensures { λ r. ⌜ r ≡ entryOf b ⌝ }
+{
+    BYTES[b as usize]
 }
 
 // Whether a byte is part of words.
 pub fn is_word(b: u8) -> bool
     ensures { λ r. ⌜ r ≡ isWord b ⌝ }
 {
-    let at = b as usize;
-    WORD <= BYTES[at]
+    WORD <= entry(b)
 }
 
 // A byte's folded form: A to Z become a to z.
 pub fn folded(b: u8) -> u8
     ensures { λ r. ⌜ r ≡ fold b ⌝ }
 {
-    let at = b as usize;
-    (BYTES[at] % WORD) as u8
+    (entry(b) % WORD) as u8
 }
 
-// The first place from `at` on whose byte is no separator, or the text's length.
+// The first place from `at` on whose byte is a word byte. With none it is the text's length, or `at` where that is more.
 fn skip_separators(s: &[u8], at: usize) -> usize
+    ensures { λ r. ⌜ r ≡ wordStart (now (s .entry)) at ⌝ }
 {
     let mut i = at;
     while i < s.len() {
@@ -306,8 +316,9 @@ fn skip_separators(s: &[u8], at: usize) -> usize
     i
 }
 
-// The first place from `at` on whose byte is no word byte, or the text's length.
+// The first place from `at` on whose byte is no word byte. With none it is the text's length, or `at` where that is more.
 fn skip_word(s: &[u8], at: usize) -> usize
+    ensures { λ r. ⌜ r ≡ at + span isWord (drop at (now (s .entry))) ⌝ }
 {
     let mut i = at;
     while i < s.len() {

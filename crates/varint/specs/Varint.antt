@@ -24,6 +24,7 @@ encodeIn (suc most) v = pick (ltb v 128) (v ∷ []) ((128 + v % 128) ∷ encodeI
 abbrev pub maxBytes : ℕ
 maxBytes = 9
 
+-- as document 01 stores numbers
 abbrev pub encode : ℕ → List ℕ
 encode v = encodeIn maxBytes v
 
@@ -45,14 +46,22 @@ readFrom (suc left) s i value scale =
     (pick (ltb (getD s i 0) 256) (readFrom left s (i + 1) (value + (getD s i 0 - 128) * scale) (scale * 128)) Refused))
     Refused
 
+-- a number of at most `most` bytes at the place `at`
 abbrev pub readIn : ℕ → List ℕ → ℕ → Varint
 readIn most s at = readFrom most s at 0 1
 
+-- a number as document 01 stores it
 abbrev pub readAt : List ℕ → ℕ → Varint
 readAt s at = readIn maxBytes s at
 
+-- what goes on with a number and the place after it, or `none` where no number is stored
+abbrev pub onVarint {ℓ} : {X : Type ℓ} → X → Varint → (ℕ → ℕ → X) → X
+onVarint none (Value v next) go = go v next
+onVarint none Refused go = none
+
 -- ---- what writing to the front of a room gives
 
+-- the answer: too large, no room, or how many bytes it took
 abbrev pub writtenOf : ℕ → List ℕ → Written
 writtenOf v room =
     pick (ltb v (2 ^ 63)) (pick (leb (length (encode v)) (length room)) (Bytes (length (encode v))) (NoRoom (length (encode v)))) TooLarge

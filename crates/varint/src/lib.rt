@@ -4,8 +4,9 @@
 //     1xxxxxxx    1xxxxxxx    ..    0xxxxxxx     seven bits to a byte, the lowest first
 ghost use mathlib.Core.Path.{_≡_};
 ghost use mathlib.Core.Logic.{_↔_};
-ghost use Prim.Native.Nat.{ℕ};
+ghost use Prim.Native.Nat.{ℕ, _≤_, _<_, _^_};
 ghost use lib.ListN.{length};
+ghost use Rattle.common.specs.Bytes.{over};
 ghost use Rattle.varint.specs.Varint.{maxBytes, encode, StoredAt, readAt, writtenOf, roomAfter};
 
 // The largest number of bytes that a number takes.
@@ -14,6 +15,13 @@ pub const MAX_BYTES: usize = 9;
 // One above the largest number that can be stored.
 pub const LIMIT: u64 = 0x8000_0000_0000_0000;
 
+// The weight of a byte beside that of the one before it: seven bits.
+const BASE: u64 = 128;
+
+// The bit that is set in every byte but the last.
+const TOP_BIT: u64 = 0x80;
+
+// What is read at a place.
 pub enum Varint {
     // The number, and the place after its last byte.
     Value { value: u64, next: usize },
@@ -21,6 +29,7 @@ pub enum Varint {
     Refused,
 }
 
+// What became of a number that was to be written.
 pub enum Written {
     // How many bytes the number took.
     Bytes(usize),
@@ -44,7 +53,7 @@ pub fn read(s: &[u8], at: usize) -> Varint
             return Varint::Refused;
         }
         let b = s[i] as u64;
-        if b < 128 {
+        if b < TOP_BIT {
             if 0 < b {
                 return Varint::Value {
                     value: value + b * scale,
@@ -56,25 +65,41 @@ pub fn read(s: &[u8], at: usize) -> Varint
             }
             return Varint::Refused;
         }
-        value += (b - 128) * scale;
-        scale *= 128;
+        value += (b - TOP_BIT) * scale;
+        scale *= BASE;
         i += 1;
         left -= 1;
     }
     Varint::Refused
 }
 
-// How many bytes a number takes.
+// How many bytes a number takes: nine where it is too large to be stored.
 pub fn size(v: u64) -> usize
     ensures { λ r. ⌜ r ≡ length (encode v) ⌝ }
 {
     let mut rest = v;
     let mut n: usize = 1;
-    while 128 <= rest && n < MAX_BYTES {
-        rest /= 128;
+    while BASE <= rest && n < MAX_BYTES {
+        rest /= BASE;
         n += 1;
     }
     n
+}
+
+// Puts the number's bytes at the front of a room that holds them.
+fn put(room: &mut [u8], v: u64)
+    requires { ⌜ v < 2 ^ 63 ⌝ }
+    requires { ⌜ length (encode v) ≤ length (now room) ⌝ }
+    ensures { λ _. ⌜ now (room .exit) ≡ over (encode v) (now (room .entry)) ⌝ }
+{
+    let mut rest = v;
+    let mut i: usize = 0;
+    while BASE <= rest {
+        room[i] = (TOP_BIT + rest % BASE) as u8;
+        rest /= BASE;
+        i += 1;
+    }
+    room[i] = rest as u8;
 }
 
 // Puts the number at the front of the room, or answers what is wrong and leaves the room as it was.
@@ -88,15 +113,6 @@ pub fn write(room: &mut [u8], v: u64) -> Written
     if room.len() < n {
         return Written::NoRoom(n);
     }
-    let mut rest = v;
-    let mut i: usize = 0;
-    while 128 <= rest && i < room.len() {
-        room[i] = (128 + rest % 128) as u8;
-        rest /= 128;
-        i += 1;
-    }
-    if i < room.len() {
-        room[i] = (rest % 128) as u8;
-    }
+    put(room, v);
     Written::Bytes(n)
 }

@@ -1,0 +1,5 @@
+pub mod General
+pub mod Steps
+pub mod Laws
+pub mod Writing
+pub mod Examples

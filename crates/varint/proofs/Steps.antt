@@ -1,0 +1,105 @@
+-- What `readFrom` gives at each kind of byte, and what the scale leaves room for.
+use Prim.Native.Nat.{ℕ, zero, suc, _+_, _-_, _*_, _^_, _≤_, _<_}
+use native.Mathlib.Nat.{not-suc-le-zero, mul-assoc, pow-succ', mul-le-mul-left, mul-le-mul-right, mul-one, le-pred-of-lt}
+use native.Mathlib.Omega.{arith}
+use native.Mathlib.Numerals.{sub-one}
+use mathlib.Core.Path.{_≡_, refl, sym, ap, _∙_}
+use mathlib.Core.List.{List}
+use lib.ListN.{length, getD}
+use borrow.Author.Tests.{lt-ltb, le-ltb, eq-eqb, ne-eqb}
+use Rattle.varint.specs.Varint.{readFrom, readAt}
+use Rattle.varint.specs.declared.Varint.the-variants.{Value, Refused}
+use Rattle.varint.proofs.General.{pow-pos}
+
+-- ---- a byte
+
+module _ (s : List ℕ) (i value scale : ℕ) where
+  -- no byte may follow
+  pub none-left : (left : ℕ) → left ≤ 0 → readFrom left s i value scale ≡ Refused
+  unfolding readFrom
+  none-left zero h = refl
+  none-left (suc left) h = absurd (not-suc-le-zero h)
+
+  -- no byte follows
+  pub past-end : (left : ℕ) → length s ≤ i → readFrom left s i value scale ≡ Refused
+  unfolding readFrom
+  past-end zero h = refl
+  past-end (suc left) h = simp (le-ltb _ _ h)
+
+  -- the last byte, not zero
+  pub last : (left : ℕ) → 0 < left → i < length s → getD s i 0 < 128 → 0 < getD s i 0
+      → readFrom left s i value scale ≡ Value (value + getD s i 0 * scale) (i + 1)
+  unfolding readFrom
+  last zero z h b p = absurd (not-suc-le-zero z)
+  last (suc left) z h b p = simp (lt-ltb _ _ h, lt-ltb _ _ b, lt-ltb _ _ p)
+
+  -- a zero that is the only byte
+  pub only-zero : (left : ℕ) → 0 < left → i < length s → getD s i 0 < 128 → getD s i 0 ≤ 0 → scale ≡ 1
+      → readFrom left s i value scale ≡ Value value (i + 1)
+  unfolding readFrom
+  only-zero zero z h b p e = absurd (not-suc-le-zero z)
+  only-zero (suc left) z h b p e = simp (lt-ltb _ _ h, lt-ltb _ _ b, le-ltb _ _ p, eq-eqb _ _ e)
+
+  -- a zero after other bytes: not the shortest form
+  pub long-zero : (left : ℕ) → 0 < left → i < length s → getD s i 0 < 128 → getD s i 0 ≤ 0 → (scale ≡ 1 → ⊥)
+      → readFrom left s i value scale ≡ Refused
+  unfolding readFrom
+  long-zero zero z h b p e = absurd (not-suc-le-zero z)
+  long-zero (suc left) z h b p e = simp (lt-ltb _ _ h, lt-ltb _ _ b, le-ltb _ _ p, ne-eqb _ _ e)
+
+  -- a byte with its top bit set
+  pub more-suc : (left : ℕ) → i < length s → 128 ≤ getD s i 0 → getD s i 0 < 256
+      → readFrom (suc left) s i value scale ≡ readFrom left s (i + 1) (value + (getD s i 0 - 128) * scale) (scale * 128)
+  unfolding readFrom
+  more-suc left h b p = simp (lt-ltb _ _ h, le-ltb _ _ b, lt-ltb _ _ p)
+
+  more : (left : ℕ) → 0 < left → i < length s → 128 ≤ getD s i 0 → getD s i 0 < 256
+      → readFrom left s i value scale ≡ readFrom (left - 1) s (i + 1) (value + (getD s i 0 - 128) * scale) (scale * 128)
+  more zero z h b p = absurd (not-suc-le-zero z)
+  more (suc left) z h b p = rw sub-one (more-suc left h b p)
+
+  -- no byte at all
+  pub no-byte : (left : ℕ) → i < length s → 256 ≤ getD s i 0 → readFrom left s i value scale ≡ Refused
+  unfolding readFrom
+  no-byte zero h b = refl
+  no-byte (suc left) h b = simp (lt-ltb _ _ h, le-ltb (getD s i 0) 128 (omega arith), le-ltb _ _ b)
+
+-- ---- the scale
+
+-- the scale and what the bytes that are left can hold make up the limit, and so do those of the next byte
+scale-step : (limit scale left : ℕ) → 0 < left → scale * 128 ^ left ≡ limit → scale * 128 * 128 ^ (left - 1) ≡ limit
+scale-step limit scale zero z e = absurd (not-suc-le-zero z)
+scale-step limit scale (suc left) z e =
+    rw sub-one (mul-assoc scale 128 (128 ^ left) ∙ ap (λ (n : ℕ). scale * n) (sym (pow-succ' 128 left)) ∙ e)
+
+scale-room : (limit scale left : ℕ) → 0 < left → scale * 128 ^ left ≡ limit → scale * 128 ≤ limit
+scale-room limit scale left z e =
+    rw (← (scale-step limit scale left z e)) (rw mul-one at (mul-le-mul-left (scale * 128) (pow-pos (left - 1))))
+
+-- a digit at the scale stays below the scale's next step
+digit-room : (d value scale : ℕ) → d < 128 → value < scale → value + d * scale < scale * 128
+digit-room d value scale h a = let m = mul-le-mul-right scale (le-pred-of-lt h) in omega arith
+
+-- ---- the reader's loop
+
+-- `value` was read up to the place `i`; what is left to read gives what reading at `at` gives
+pub record Reading (s : List ℕ) (at value scale i left : ℕ) : Type 0 where
+  pub goes-on : readAt s at ≡ readFrom left s i value scale
+  pub below : value < scale
+  pub limit : scale * 128 ^ left ≡ 2 ^ 63
+
+module _ {s : List ℕ} {at value scale i left : ℕ} (r : Reading s at value scale i left) (z : 0 < left) where
+  pub digit-fits : (d : ℕ) → d < 128 → (value + d * scale < 2 ^ 63) × (scale * 128 ≤ 2 ^ 63)
+  digit-fits d h =
+      let m = digit-room d value scale h (r .below) in
+      let n = scale-room (2 ^ 63) scale left z (r .limit) in
+      (omega arith, n)
+
+  pub reading-more : i < length s → 128 ≤ getD s i 0 → getD s i 0 < 256
+      → Reading s at (value + (getD s i 0 - 128) * scale) (scale * 128) (i + 1) (left - 1)
+  reading-more h b p =
+      record {
+        goes-on = r .goes-on ∙ more s i value scale left z h b p;
+        below = digit-room (getD s i 0 - 128) value scale (omega arith) (r .below);
+        limit = scale-step (2 ^ 63) scale left z (r .limit);
+      }

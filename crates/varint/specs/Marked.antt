@@ -1,0 +1,27 @@
+-- The examples of stored numbers that document 01 marks: P1 to P6. Bytes are given as the document prints them, in
+-- sixteens. A number that is stored is claimed in both directions: these are its bytes, and these bytes are read as it.
+use Prim.Native.Nat.{ℕ, _-_, _^_}
+use mathlib.Core.Path.{_≡_}
+use mathlib.Core.List.{List, [], _∷_}
+use lib.ListN.{length}
+use Rattle.common.specs.Marked.{Example}
+use Rattle.varint.specs.Varint.{encode, readAt}
+use Rattle.varint.specs.declared.Varint.the-variants.{Value, Refused}
+
+-- `bytes` are the number `v`, stored
+abbrev pub Stored : ℕ → List ℕ → Type 0
+Stored v bytes = (encode v ≡ bytes) × (readAt bytes 0 ≡ Value v (length bytes))
+
+-- no number is stored at the front of `bytes`
+abbrev pub NotStored : List ℕ → Type 0
+NotStored bytes = readAt bytes 0 ≡ Refused
+
+abbrev pub marked : List Example
+marked =
+    record { number = 1; claim = Stored 43 (0x2B ∷ []) }
+    ∷ record { number = 2; claim = Stored 128 (0x80 ∷ 0x01 ∷ []) }
+    ∷ record { number = 3; claim = Stored 200815 (0xEF ∷ 0xA0 ∷ 0x0C ∷ []) }
+    ∷ record { number = 4; claim = NotStored (0x80 ∷ 0x00 ∷ []) }
+    ∷ record { number = 5; claim = Stored (2 ^ 63 - 1) (0xFF ∷ 0xFF ∷ 0xFF ∷ 0xFF ∷ 0xFF ∷ 0xFF ∷ 0xFF ∷ 0xFF ∷ 0x7F ∷ []) }
+    ∷ record { number = 6; claim = NotStored (0xFF ∷ 0xFF ∷ 0xFF ∷ 0xFF ∷ 0xFF ∷ 0xFF ∷ 0xFF ∷ 0xFF ∷ 0xFF ∷ 0x01 ∷ []) }
+    ∷ []
