@@ -1,12 +1,12 @@
 -- Several byte strings lent as one (document 01, "How things are lent"): a byte slice cut by a list of 32-bit ends. The
 -- ends never fall, none passes the slice's length, and the last equals it; an empty list goes only with an empty slice.
-use Prim.Native.Nat.{ℕ, zero, suc, _+_, _-_, _≤_, _<_}
+use Prim.Native.Nat.{ℕ, _+_, _-_, _≤_, _<_}
 use mathlib.Core.Path.{_≡_}
-use mathlib.Core.Bool.{Bool, true, false}
+use mathlib.Core.Bool.{Bool}
 use mathlib.Core.List.{List, [], _∷_}
 use lib.ListN.{length, getD}
 use lib.Dec.{eqb, leb}
-use Rattle.common.specs.Pick.{pick, both}
+use Rattle.common.specs.Pick.{both}
 use Rattle.common.specs.Bytes.{part}
 
 -- ---- the shape

@@ -1,8 +1,8 @@
 -- Column names (document 01, "How things are lent"): 1 to 16 of them; a name has 1 to 32 ASCII letters, digits or `_`;
 -- no two are equal when ASCII case is ignored. A column is found by its name, ASCII case ignored.
-use Prim.Native.Nat.{ℕ, zero, suc, _+_, _≤_, _<_}
+use Prim.Native.Nat.{ℕ, suc, _≤_, _<_}
 use mathlib.Core.Path.{_≡_}
-use mathlib.Core.Bool.{Bool, true, false, not}
+use mathlib.Core.Bool.{Bool, true, false}
 use mathlib.Core.List.{List, [], _∷_, map}
 use lib.ListN.{length, getD}
 use lib.Dec.{eqb, ltb}
@@ -46,17 +46,24 @@ columnFrom i (n ∷ ns) name = pick (sameName n name) (At i) (columnFrom (suc i)
 abbrev pub columnOf : List (List ℕ) → List ℕ → Column
 columnOf names name = columnFrom 0 names name
 
+-- the same, rule by rule: column number `i` has the name, and none before it has
+pub record ColumnIs (names : List (List ℕ)) (name : List ℕ) (i : ℕ) : Type 0 where
+  pub inside : i < length names
+  pub same : map fold (getD names i []) ≡ map fold name
+  pub first : (j : ℕ) → j < i → map fold (getD names j []) ≡ map fold name → ⊥
+
 -- ---- all names
 
 unfoldable pub eachName : List (List ℕ) → Bool
 eachName [] = true
 eachName (n ∷ ns) = both (isName n) (eachName ns)
 
--- no name is among the others
+-- whether a search found no such name
 abbrev pub isNew : Column → Bool
 isNew Unknown = true
 isNew (At i) = false
 
+-- whether no name is found again among the later ones: no two are equal when ASCII case is ignored
 unfoldable pub distinct : List (List ℕ) → Bool
 distinct [] = true
 distinct (n ∷ ns) = both (isNew (columnOf ns n)) (distinct ns)

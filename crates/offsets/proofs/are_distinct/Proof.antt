@@ -1,0 +1,69 @@
+-- `are_distinct` meets its contract. The loop's invariant: the names still to compare differ exactly when all of them do.
+use Prim.Native.Nat.{_-_, _≤_}
+use native.Mathlib.Omega.{arith}
+use mathlib.Core.Path.{_≡_, sym, _∙_}
+use lib.ListN.{length, drop}
+use borrow.Author.Tests.{not-true, not-false}
+use borrow.Author.Needs.{needs}
+use Rattle.offsets.specs.Cut.{cut}
+use Rattle.offsets.specs.Names.{distinct}
+use Rattle.offsets.proofs.General.{every-fails, every-next, every-end}
+use Rattle.offsets.proofs.Cuts.{in-cut, past-cut}
+use Rattle.offsets.proofs.NameLaws.{distinct-test}
+use Rattle.offsets.proofs.are_distinct.Statement.{statement}
+use Rattle.offsets.proofs.are_distinct.Tie as tie
+
+abbrev Inv-loop : tie.InvT-loop
+Inv-loop s ends i₀ i = (i ≤ length ends) × (distinct (drop i (cut s ends)) ≡ distinct (cut s ends))
+
+abbrev μ-loop : tie.MeasureT-loop
+μ-loop s ends i₀ i = length ends - i
+
+loop-holds : tie.Need-loop-holds Inv-loop μ-loop
+loop-holds c = search needs
+
+differs-from-later-requires : tie.Need-differs-from-later-requires Inv-loop μ-loop
+differs-from-later-requires c κs = search needs
+
+returns : tie.Need-returns Inv-loop μ-loop
+returns c =
+    let l = c .before .before .before in
+    let s = l .before .before .before .args .s .now in
+    let es = l .before .before .before .args .ends .now in
+    let e = sym (c .before .differs-from-later .ensures) ∙ not-true _ (c .if1 .taken) in
+    every-fails distinct-test (cut s es) (l .loop .i) (in-cut s es (l .loop .i) (omega arith)) e ∙ l .loop .inv .1
+
+add-i : tie.Need-add-i Inv-loop μ-loop
+add-i c = search needs
+
+loop-less : tie.Need-loop-less Inv-loop μ-loop
+loop-less c = search needs
+
+loop-again : tie.Need-loop-again Inv-loop μ-loop
+loop-again c =
+    let l = c .before .before .before in
+    let s = l .before .before .before .args .s .now in
+    let es = l .before .before .before .args .ends .now in
+    let e = sym (c .before .differs-from-later .ensures) ∙ not-false _ (c .if1 .left) in
+    (omega arith, every-next distinct-test (cut s es) (l .loop .i) (in-cut s es (l .loop .i) (omega arith)) e ∙ l .loop .inv .1)
+
+returns-2 : tie.Need-returns-2 Inv-loop μ-loop
+returns-2 c =
+    let l = c .before in
+    let s = l .before .before .before .args .s .now in
+    let es = l .before .before .before .args .ends .now in
+    every-end distinct-test (cut s es) (l .loop .i) (past-cut s es (l .loop .i) (omega arith)) ∙ l .loop .inv .1
+
+pub are-distinct-spec : {M : Type 1} → statement M
+are-distinct-spec =
+    tie.close
+    (tie.spec
+    Inv-loop
+    μ-loop
+    loop-holds
+    differs-from-later-requires
+    returns
+    add-i
+    loop-less
+    loop-again
+    returns-2)

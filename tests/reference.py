@@ -1,0 +1,954 @@
+"""A second program for the FTS4 leaf checker, lookup, leaf writer and search.
+
+It is written from document 01, "Build specification and rules", alone, in the
+order of that document, and gives the expected answers for comparison.  It aims
+at being plain rather than fast.  Refusals are answers, never exceptions.
+"""
+
+from bisect import bisect_left
+
+MAX_QUERY_BYTES = 512
+MAX_QUERY_WORDS = 16
+MAX_DEPTH = 8
+MAX_LEAVES = 8
+MAX_LEAF_BYTES = 65536
+MAX_COLUMNS = 16
+MAX_NAME_BYTES = 32
+MAX_WORD_BYTES = 64
+MAX_DOCUMENT_BYTES = 4096
+MAX_NUMBER = 2**63 - 1
+MAX_POSITION = 2**31 - 1
+DEFAULT_DISTANCE = 10
+ANY_COLUMN = 65535
+
+ACCEPTED, SHAPE, QUERY, LEAF, ROOM, LONG_WORD = range(6)
+
+WHITE_SPACE = b" \t\n\x0b\x0c\r"
+NAME_BYTES = b"ABCDEFGHIJKLMNOPQRSTUVWXYZabcdefghijklmnopqrstuvwxyz0123456789_"
+PROGRAM_COLUMNS = [b"node", b"sent", b"outcome"]
+PROGRAM_ROOM = 4096
+
+
+# How things are lent
+
+
+def cut(s, ends):
+    """The parts of a slice cut by its ends, or None when the ends are broken.
+
+    Document 01, "How things are lent".
+    """
+    parts = []
+    start = 0
+    for end in ends:
+        if end < start or end > len(s):
+            return None
+        parts.append(s[start:end])
+        start = end
+    if start != len(s):
+        return None
+    return parts
+
+
+def name_ok(name):
+    """Whether one column name has 1 to 32 letters, digits or underscores.
+
+    Document 01, "How things are lent", row "Columns".
+    """
+    return 1 <= len(name) <= MAX_NAME_BYTES and all(b in NAME_BYTES for b in name)
+
+
+def names_ok(s, ends):
+    """Whether the lent column names have the right shape.
+
+    Document 01, "How things are lent", row "Columns".
+    """
+    names = cut(s, ends)
+    if names is None or not columns_ok(len(names)):
+        return False
+    if not all(name_ok(name) for name in names):
+        return False
+    return len({name.lower() for name in names}) == len(names)
+
+
+def columns_ok(columns):
+    """Whether a column count is 1 to 16.
+
+    Document 01, "How things are lent", row "Columns".
+    """
+    return 1 <= columns <= MAX_COLUMNS
+
+
+def column_of(names, name):
+    """The first column whose name is equal when ASCII case is ignored, or None.
+
+    Document 01, "How things are lent" and "The query language".
+    """
+    for index, candidate in enumerate(names):
+        if candidate.lower() == name.lower():
+            return index
+    return None
+
+
+# Stored numbers
+
+
+def encode_varint(v):
+    """The shortest form of a number; None when it is not 0 to 2^63 - 1.
+
+    Document 01, "Stored numbers".
+    """
+    if not 0 <= v <= MAX_NUMBER:
+        return None
+    out = bytearray()
+    while v >= 128:
+        out.append(128 + v % 128)
+        v //= 128
+    out.append(v)
+    return bytes(out)
+
+
+def varint_size(v):
+    """How many bytes the shortest form has; None when there is no form.
+
+    Document 01, "Stored numbers".
+    """
+    encoded = encode_varint(v)
+    return None if encoded is None else len(encoded)
+
+
+def read_varint(s, at):
+    """The number stored at `at` and where it ends, or None when there is none.
+
+    Document 01, "Stored numbers": one to nine bytes, shortest form only.
+    """
+    value = 0
+    for count in range(9):
+        if not 0 <= at + count < len(s):
+            return None
+        byte = s[at + count]
+        value += (byte % 128) << (7 * count)
+        if byte < 128:
+            if byte == 0 and count > 0:
+                return None
+            return value, at + count + 1
+    return None
+
+
+def write_varint(room, v):
+    """A number placed at the start of the room; the rest of the room stays.
+
+    Document 01, "Stored numbers".
+    """
+    encoded = encode_varint(v)
+    if encoded is None:
+        return "toolarge", 0, room
+    if len(encoded) > len(room):
+        return "noroom", len(encoded), room
+    return "bytes", len(encoded), encoded + room[len(encoded):]
+
+
+# A posting list (doclist)
+
+
+def read_columns(s, at, columns):
+    """The columns of one entry from `at` to its closing 0, and where it ends.
+
+    Document 01, "A posting list"; None when a rule is broken.
+    """
+    found = []
+    column, positions = 0, []
+    while True:
+        number = read_varint(s, at)
+        if number is None:
+            return None
+        value, at = number
+        if value >= 2:
+            position = next_position(positions, value)
+            if position is None or column >= columns:
+                return None
+            positions.append(position)
+            continue
+        if positions:
+            found.append((column, positions))
+        elif column > 0:
+            return None
+        if value == 0:
+            return found, at
+        number = read_varint(s, at)
+        if number is None:
+            return None
+        announced, at = number
+        if not column < announced < columns:
+            return None
+        column, positions = announced, []
+
+
+def next_position(positions, stored):
+    """The position meant by a stored value after earlier ones of its column.
+
+    Document 01, "A posting list"; None when it does not rise or is too large.
+    """
+    step = stored - 2
+    if positions and step < 1:
+        return None
+    position = step + (positions[-1] if positions else 0)
+    return position if position <= MAX_POSITION else None
+
+
+def entry_spans(s, columns):
+    """All entries of a doclist as (docid, columns, start, end), or None.
+
+    Document 01, "A posting list": one or more entries, nothing after.
+    """
+    entries = []
+    at = 0
+    while at < len(s):
+        start = at
+        number = read_varint(s, at)
+        if number is None:
+            return None
+        docid, at = number
+        if entries:
+            if docid < 1:
+                return None
+            docid += entries[-1][0]
+        if docid > MAX_NUMBER:
+            return None
+        body = read_columns(s, at, columns)
+        if body is None:
+            return None
+        found, at = body
+        entries.append((docid, found, start, at))
+    return entries if entries else None
+
+
+def parse_doclist(s, columns):
+    """The entries of a doclist as (docid, [(column, [positions])]), or None.
+
+    Document 01, "A posting list".
+    """
+    spans = entry_spans(s, columns)
+    if spans is None:
+        return None
+    return [(docid, found) for docid, found, _, _ in spans]
+
+
+def encode_doclist(entries):
+    """The doclist of sound entries, docids, columns and positions rising.
+
+    Document 01, "A posting list".
+    """
+    out = bytearray()
+    previous_docid = 0
+    for docid, found in entries:
+        out += encode_varint(docid - previous_docid)
+        previous_docid = docid
+        for column, positions in found:
+            if column > 0:
+                out += encode_varint(1) + encode_varint(column)
+            previous = 0
+            for position in positions:
+                out += encode_varint(position - previous + 2)
+                previous = position
+        out += encode_varint(0)
+    return bytes(out)
+
+
+# A leaf
+
+
+def shared_prefix(one, other):
+    """The length of the longest prefix that two terms share.
+
+    Document 01, "A leaf".
+    """
+    length = 0
+    while length < len(one) and length < len(other) and one[length] == other[length]:
+        length += 1
+    return length
+
+
+def read_bytes(s, at):
+    """A length and as many bytes, as (bytes, next), or None.
+
+    Document 01, "A leaf".
+    """
+    number = read_varint(s, at)
+    if number is None:
+        return None
+    length, at = number
+    if at + length > len(s):
+        return None
+    return s[at:at + length], at + length
+
+
+def read_term(s, at, previous):
+    """The term at `at` and where it ends; `previous` is None for the first.
+
+    Document 01, "A leaf"; None when a rule is broken.
+    """
+    prefix = 0
+    if previous is not None:
+        number = read_varint(s, at)
+        if number is None:
+            return None
+        prefix, at = number
+        if prefix > len(previous):
+            return None
+    part = read_bytes(s, at)
+    if part is None:
+        return None
+    suffix, at = part
+    term = suffix if previous is None else previous[:prefix] + suffix
+    if len(suffix) < 1 or len(term) > MAX_WORD_BYTES:
+        return None
+    if previous is not None:
+        if not previous < term or shared_prefix(previous, term) != prefix:
+            return None
+    return term, at
+
+
+def parse_leaf(s, columns):
+    """The terms of a leaf as (term, entries, list start, list end), or None.
+
+    Document 01, "A leaf".
+    """
+    number = read_varint(s, 0)
+    if number is None or number[0] != 0:
+        return None
+    at = number[1]
+    terms = []
+    previous = None
+    while at < len(s):
+        read = read_term(s, at, previous)
+        if read is None:
+            return None
+        previous, at = read
+        part = read_bytes(s, at)
+        if part is None:
+            return None
+        doclist, at = part
+        entries = parse_doclist(doclist, columns)
+        if entries is None:
+            return None
+        terms.append((previous, entries, at - len(doclist), at))
+    return terms if terms else None
+
+
+def encode_leaf(terms):
+    """The leaf of sound rising (term, entries); no bytes for no terms.
+
+    Document 01, "A leaf" and "Words" (a document without words is no leaf).
+    """
+    if not terms:
+        return b""
+    out = bytearray(encode_varint(0))
+    previous = None
+    for term, entries in terms:
+        prefix = 0
+        if previous is not None:
+            prefix = shared_prefix(previous, term)
+            out += encode_varint(prefix)
+        out += encode_varint(len(term) - prefix) + term[prefix:]
+        doclist = encode_doclist(entries)
+        out += encode_varint(len(doclist)) + doclist
+        previous = term
+    return bytes(out)
+
+
+def check_leaf(leaf, columns):
+    """The answer to the check of one leaf: 0, 1 or 3, each with 0.
+
+    Document 01, "Numbers of the answers", last sentence.
+    """
+    if not columns_ok(columns) or len(leaf) > MAX_LEAF_BYTES:
+        return SHAPE, 0
+    if parse_leaf(leaf, columns) is None:
+        return LEAF, 0
+    return ACCEPTED, 0
+
+
+# Words (tokens of "simple")
+
+
+def is_word_byte(byte):
+    """Whether a byte is an ASCII letter, a digit or 128 and up.
+
+    Document 01, "Words".
+    """
+    return (
+        ord("A") <= byte <= ord("Z")
+        or ord("a") <= byte <= ord("z")
+        or ord("0") <= byte <= ord("9")
+        or byte >= 128
+    )
+
+
+def fold(word):
+    """A word with A to Z turned into a to z, all else kept.
+
+    Document 01, "Words".
+    """
+    return bytes(b + 32 if ord("A") <= b <= ord("Z") else b for b in word)
+
+
+def next_run(text, at):
+    """The first run of word bytes from `at` on as (start, end), or None.
+
+    Document 01, "Words".
+    """
+    start = max(at, 0)
+    while start < len(text) and not is_word_byte(text[start]):
+        start += 1
+    if start >= len(text):
+        return None
+    end = start
+    while end < len(text) and is_word_byte(text[end]):
+        end += 1
+    return start, end
+
+
+def next_word(text, at):
+    """The first run from `at` on, told apart by the 64 bytes of a word.
+
+    Document 01, "Words" and "How things are lent", row "Word".
+    """
+    run = next_run(text, at)
+    if run is None:
+        return None
+    start, end = run
+    kind = "found" if end - start <= MAX_WORD_BYTES else "overlong"
+    return kind, start, end
+
+
+def words(text):
+    """All words of a text as (start, end, folded bytes), of any length.
+
+    Document 01, "Words".
+    """
+    found = []
+    run = next_run(text, 0)
+    while run is not None:
+        start, end = run
+        found.append((start, end, fold(text[start:end])))
+        run = next_run(text, end)
+    return found
+
+
+# The writer
+
+
+def document_terms(docid, texts):
+    """The rising terms of one document with one entry each.
+
+    Document 01, "Words": words are numbered from 0 in each column.
+    """
+    places = {}
+    for column, text in enumerate(texts):
+        for position, (_, _, word) in enumerate(words(text)):
+            places.setdefault(word, {}).setdefault(column, []).append(position)
+    return [(term, [(docid, sorted(places[term].items()))]) for term in sorted(places)]
+
+
+def write_leaf(docid, texts, ends, room_len):
+    """The writer's answer and its room, checks 1, 5, 4 in that order.
+
+    Document 01, "Numbers of the answers" and "Words".
+    """
+    empty = bytes(room_len)
+    columns = cut(texts, ends)
+    if columns is None or not columns_ok(len(columns)):
+        return SHAPE, 0, empty
+    if len(texts) > MAX_DOCUMENT_BYTES or not 0 <= docid <= MAX_NUMBER:
+        return SHAPE, 0, empty
+    for column, text in enumerate(columns):
+        if any(len(word) > MAX_WORD_BYTES for _, _, word in words(text)):
+            return LONG_WORD, column, empty
+    leaf = encode_leaf(document_terms(docid, columns))
+    if len(leaf) > room_len:
+        return ROOM, len(leaf), empty
+    return ACCEPTED, len(leaf), leaf + bytes(room_len - len(leaf))
+
+
+# Lookups
+
+
+def lookup(leaf, columns, word):
+    """The word's doclist as (number, bytes in the part, start in the leaf).
+
+    Document 01, "Lookups", one leaf; the start is 0 when the part is empty.
+    """
+    if not columns_ok(columns) or len(leaf) > MAX_LEAF_BYTES:
+        return SHAPE, 0, 0
+    if not 1 <= len(word) <= MAX_WORD_BYTES:
+        return SHAPE, 0, 0
+    terms = parse_leaf(leaf, columns)
+    if terms is None:
+        return LEAF, 0, 0
+    for term, _, start, end in terms:
+        if term == word:
+            return ACCEPTED, end - start, start
+    return ACCEPTED, 0, 0
+
+
+def deciding(newer, older, columns, word, docid):
+    """The deciding entry as (number, bytes, which leaf, start in that leaf).
+
+    Document 01, "Lookups", two leaves; leaf and start are 0 for an empty part.
+    """
+    if not columns_ok(columns) or len(newer) + len(older) > MAX_LEAF_BYTES:
+        return SHAPE, 0, 0, 0
+    if not 1 <= len(word) <= MAX_WORD_BYTES or not 0 <= docid <= MAX_NUMBER:
+        return SHAPE, 0, 0, 0
+    for which, leaf in enumerate([newer, older]):
+        if parse_leaf(leaf, columns) is None:
+            return LEAF, which, 0, 0
+    for which, leaf in enumerate([newer, older]):
+        _, length, list_start = lookup(leaf, columns, word)
+        if length == 0:
+            continue
+        doclist = leaf[list_start:list_start + length]
+        for entry_docid, _, start, end in entry_spans(doclist, columns):
+            if entry_docid == docid:
+                return ACCEPTED, end - start, which, list_start + start
+    return ACCEPTED, 0, 0, 0
+
+
+# The query language
+#
+# A tree is one of
+#   ("phrase", column set, [(word, star), ...])
+#   ("near", [phrase, ...], [distance or None for a bare NEAR, ...])
+#   ("not", left, right), ("and", left, right), ("or", left, right)
+
+
+def split_query(query):
+    """The query as pieces "(", ")", ("quoted", bytes), ("run", bytes), or None.
+
+    Document 01, "The query language": None for a missing closing quote.
+    """
+    pieces = []
+    at = 0
+    while at < len(query):
+        byte = query[at:at + 1]
+        if byte in WHITE_SPACE:
+            at += 1
+        elif byte in b"()":
+            pieces.append(byte.decode())
+            at += 1
+        elif byte == b'"':
+            close = query.find(b'"', at + 1)
+            if close < 0:
+                return None
+            pieces.append(("quoted", query[at + 1:close]))
+            at = close + 1
+        else:
+            end = at
+            while end < len(query) and query[end] not in WHITE_SPACE + b'()"':
+                end += 1
+            pieces.append(("run", query[at:end]))
+            at = end
+    return pieces
+
+
+def read_operator(run):
+    """The operator that a run is exactly, as (kind, distance), or None.
+
+    Document 01, "The query language".
+    """
+    if run in (b"AND", b"OR", b"NOT", b"NEAR"):
+        return run.decode(), None
+    digits = run[len(b"NEAR/"):]
+    if run.startswith(b"NEAR/") and 1 <= len(digits) <= 4:
+        if all(ord("0") <= b <= ord("9") for b in digits):
+            return "NEAR", int(digits)
+    return None
+
+
+def read_word(run, names):
+    """The phrase of one word that a run stands for, or None.
+
+    Document 01, "The query language": [column ":"] word bytes ["*"].
+    """
+    column_set = ANY_COLUMN
+    if b":" in run:
+        name, run = run.split(b":", 1)
+        column = column_of(names, name)
+        if column is None:
+            return None
+        column_set = 1 << column
+    star = run.endswith(b"*")
+    word = run[:-1] if star else run
+    if not 1 <= len(word) <= MAX_WORD_BYTES:
+        return None
+    if not all(is_word_byte(b) for b in word):
+        return None
+    return "phrase", column_set, [(fold(word), star)]
+
+
+def read_quoted(text):
+    """The phrase between two quotes, or None.
+
+    Document 01, "The query language": a star straight after a word marks it.
+    """
+    found = []
+    for _, end, word in words(text):
+        if len(word) > MAX_WORD_BYTES:
+            return None
+        found.append((word, text[end:end + 1] == b"*"))
+    if not found:
+        return None
+    return "phrase", ANY_COLUMN, found
+
+
+def read_items(query, names):
+    """The query as parentheses, operators and phrases in order, or None.
+
+    Document 01, "The query language" and row "Query" (16 words in all).
+    """
+    pieces = split_query(query)
+    if pieces is None:
+        return None
+    items = []
+    word_count = 0
+    for piece in pieces:
+        if piece in ("(", ")"):
+            items.append((piece, None))
+            continue
+        kind, text = piece
+        operator = read_operator(text) if kind == "run" else None
+        if operator is not None:
+            items.append(operator)
+            continue
+        phrase = read_word(text, names) if kind == "run" else read_quoted(text)
+        if phrase is None:
+            return None
+        word_count += len(phrase[2])
+        items.append(phrase)
+    return items if word_count <= MAX_QUERY_WORDS else None
+
+
+def nest(items):
+    """The items with each pair of parentheses made one ("group", items), or None.
+
+    Document 01, "The query language": parentheses may stand eight deep.
+    """
+    open_groups = [[]]
+    for item in items:
+        if item[0] == "(":
+            if len(open_groups) > MAX_DEPTH:
+                return None
+            open_groups.append([])
+        elif item[0] == ")":
+            if len(open_groups) == 1:
+                return None
+            group = open_groups.pop()
+            open_groups[-1].append(("group", group))
+        else:
+            open_groups[-1].append(item)
+    return open_groups[0] if len(open_groups) == 1 else None
+
+
+def write_out_and(items):
+    """The items with an AND between every two operands side by side.
+
+    Document 01, "The query language".
+    """
+    out = []
+    for item in items:
+        if out and is_operand(out[-1]) and is_operand(item):
+            out.append(("AND", None))
+        out.append(item)
+    return out
+
+
+def is_operand(item):
+    """Whether an item is a phrase or a group rather than an operator.
+
+    Document 01, "The query language".
+    """
+    return item[0] in ("phrase", "group")
+
+
+def split_at(items, kind):
+    """The stretches between the operators of one kind, at this level.
+
+    Document 01, "The query language".
+    """
+    parts = [[]]
+    for item in items:
+        if item[0] == kind:
+            parts.append([])
+        else:
+            parts[-1].append(item)
+    return parts
+
+
+def read_level(items):
+    """The tree of the items of one level of parentheses, or None.
+
+    Document 01, "The query language".
+    """
+    return read_binary(write_out_and(items), ["OR", "AND", "NOT"])
+
+
+def read_binary(items, kinds):
+    """The tree of items split at the loosest operator left, grouped from the left.
+
+    Document 01, "The query language": NEAR, NOT, AND, OR, tightest first.
+    """
+    if not kinds:
+        return read_chain(items)
+    trees = [read_binary(part, kinds[1:]) for part in split_at(items, kinds[0])]
+    if any(tree is None for tree in trees):
+        return None
+    result = trees[0]
+    for tree in trees[1:]:
+        result = (kinds[0].lower(), result, tree)
+    return result
+
+
+def read_chain(items):
+    """The tree of a stretch that has no operator but NEAR, or None.
+
+    Document 01, "The query language": NEAR takes no parentheses.
+    """
+    parts = split_at(items, "NEAR")
+    if any(len(part) != 1 for part in parts):
+        return None
+    operands = [part[0] for part in parts]
+    if len(operands) == 1 and operands[0][0] == "group":
+        return read_level(operands[0][1])
+    if any(operand[0] != "phrase" for operand in operands):
+        return None
+    if len(operands) == 1:
+        return operands[0]
+    distances = [item[1] for item in items if item[0] == "NEAR"]
+    return "near", operands, distances
+
+
+def read_query(query, names):
+    """The tree of a query, or None when it is not in the language (number 2).
+
+    Document 01, "The query language" and row "Query".
+    """
+    if len(query) > MAX_QUERY_BYTES:
+        return None
+    items = read_items(query, names)
+    if items is None:
+        return None
+    nested = nest(items)
+    if nested is None:
+        return None
+    return read_level(nested)
+
+
+def canonical(tree):
+    """One printed form of a tree in ASCII; "refused" for no tree.
+
+    A phrase is [column set word word*], words in hex; a chain is
+    (NEAR phrase ~ phrase ~5 phrase); the rest is (AND left right) and so on.
+    Document 01, "The query language".
+    """
+    if tree is None:
+        return "refused"
+    if tree[0] == "phrase":
+        marked = [word.hex() + ("*" if star else "") for word, star in tree[2]]
+        return "[" + " ".join([str(tree[1])] + marked) + "]"
+    if tree[0] == "near":
+        printed = [canonical(tree[1][0])]
+        for distance, phrase in zip(tree[2], tree[1][1:]):
+            printed.append("~" if distance is None else "~" + str(distance))
+            printed.append(canonical(phrase))
+        return "(NEAR " + " ".join(printed) + ")"
+    return "(" + " ".join([tree[0].upper(), canonical(tree[1]), canonical(tree[2])]) + ")"
+
+
+# When a row satisfies a query
+
+
+def live_entries(parsed_leaves):
+    """For each term and docid the columns of the entry in the newest leaf.
+
+    Document 01, "When a row satisfies a query"; a deletion has no columns.
+    """
+    live = {}
+    for terms in parsed_leaves:
+        for term, entries, _, _ in terms:
+            rows = live.setdefault(term, {})
+            for docid, found in entries:
+                if docid not in rows:
+                    rows[docid] = found
+    return live
+
+
+def word_places(live, word, star, column_set):
+    """For each docid the set of (column, position) at which a query word is.
+
+    Document 01, "When a row satisfies a query".
+    """
+    if star:
+        terms = [term for term in live if term.startswith(word)]
+    else:
+        terms = [word] if word in live else []
+    places = {}
+    for term in terms:
+        for docid, found in live[term].items():
+            for column, positions in found:
+                if column_set >> column & 1:
+                    row = places.setdefault(docid, set())
+                    row.update((column, position) for position in positions)
+    return places
+
+
+def phrase_starts(live, phrase):
+    """For each docid the non-empty set of (column, first position) of a phrase.
+
+    Document 01, "When a row satisfies a query": consecutive, in one column.
+    """
+    _, column_set, phrase_words = phrase
+    places = [word_places(live, word, star, column_set) for word, star in phrase_words]
+    starts = {}
+    for docid, firsts in places[0].items():
+        for offset in range(1, len(places)):
+            row = places[offset].get(docid, set())
+            firsts = {(c, p) for c, p in firsts if (c, p + offset) in row}
+        if firsts:
+            starts[docid] = firsts
+    return starts
+
+
+def positions_between(first, length, other_first, other_length):
+    """How many positions stand strictly between two occurrences of a column.
+
+    Document 01, "When a row satisfies a query"; none when they share one.
+    """
+    after = other_first - (first + length)
+    before = first - (other_first + other_length)
+    return max(after, before, 0)
+
+
+def near_some(starts, length, reached, reached_length, distance):
+    """The starts of one operand that are near a reached start of its neighbour.
+
+    Document 01, "When a row satisfies a query".  For one start the near ones
+    of the neighbour are those from `low` to `high`, one stretch of numbers.
+    """
+    by_column = {}
+    for column, first in sorted(reached):
+        by_column.setdefault(column, []).append(first)
+    near = set()
+    for column, first in starts:
+        candidates = by_column.get(column, [])
+        low = first - distance - reached_length
+        high = first + length + distance
+        index = bisect_left(candidates, low)
+        if index < len(candidates) and candidates[index] <= high:
+            near.add((column, first))
+    return near
+
+
+def chain_holds(operands, distances):
+    """Whether one occurrence of each operand can be chosen, neighbours near.
+
+    Document 01, "When a row satisfies a query".  An operand is its set of
+    starts with its length; `reached` keeps the starts of an operand at which
+    a choice for the operands up to it can end.
+    """
+    reached, reached_length = operands[0]
+    for (starts, length), distance in zip(operands[1:], distances):
+        if distance is None:
+            distance = DEFAULT_DISTANCE
+        reached = near_some(starts, length, reached, reached_length, distance)
+        reached_length = length
+    return bool(reached)
+
+
+def chain_docids(live, phrases, distances):
+    """The docids that satisfy a NEAR chain.
+
+    Document 01, "When a row satisfies a query".
+    """
+    starts = [phrase_starts(live, phrase) for phrase in phrases]
+    lengths = [len(phrase[2]) for phrase in phrases]
+    docids = set()
+    for docid in starts[0]:
+        if all(docid in rows for rows in starts):
+            operands = [(rows[docid], n) for rows, n in zip(starts, lengths)]
+            if chain_holds(operands, distances):
+                docids.add(docid)
+    return docids
+
+
+def matching(live, tree):
+    """The set of docids that satisfy a tree.
+
+    Document 01, "When a row satisfies a query".
+    """
+    if tree[0] == "phrase":
+        return set(phrase_starts(live, tree))
+    if tree[0] == "near":
+        return chain_docids(live, tree[1], tree[2])
+    left, right = matching(live, tree[1]), matching(live, tree[2])
+    if tree[0] == "and":
+        return left & right
+    if tree[0] == "or":
+        return left | right
+    return left - right
+
+
+def leaves_ok(leaves, leaf_ends):
+    """Whether the lent leaves have the right shape.
+
+    Document 01, "How things are lent", row "Leaves".
+    """
+    if len(leaf_ends) > MAX_LEAVES or len(leaves) > MAX_LEAF_BYTES:
+        return False
+    return cut(leaves, leaf_ends) is not None
+
+
+def search(names, name_ends, leaves, leaf_ends, query, room_len):
+    """The search's answer and its room, checks 1, 2, 3, 4 in that order.
+
+    Document 01, "Numbers of the answers" and "When a row satisfies a query".
+    """
+    empty = [0] * room_len
+    if not names_ok(names, name_ends) or not leaves_ok(leaves, leaf_ends):
+        return SHAPE, 0, empty
+    name_list = cut(names, name_ends)
+    tree = read_query(query, name_list)
+    if tree is None:
+        return QUERY, 0, empty
+    parsed = []
+    for index, leaf in enumerate(cut(leaves, leaf_ends)):
+        terms = parse_leaf(leaf, len(name_list))
+        if terms is None:
+            return LEAF, index, empty
+        parsed.append(terms)
+    docids = sorted(matching(live_entries(parsed), tree))
+    if len(docids) > room_len:
+        return ROOM, len(docids), empty
+    return ACCEPTED, len(docids), docids + [0] * (room_len - len(docids))
+
+
+# The program
+
+
+def one_search(query, leaf):
+    """What the program writes; a None is a query or a leaf that can't be read.
+
+    Document 01, "Marked examples", last paragraph.
+    """
+    if leaf is None:
+        return "no leaf\n"
+    if len(leaf) > MAX_LEAF_BYTES:
+        return "refused 1 0\n"
+    if query is None or len(query) > MAX_QUERY_BYTES:
+        return "refused 2 0\n"
+    names = b"".join(PROGRAM_COLUMNS)
+    name_ends = [4, 8, 15]
+    number, beside, room = search(names, name_ends, leaf, [len(leaf)], query, PROGRAM_ROOM)
+    if number != ACCEPTED:
+        return "refused %d %d\n" % (number, beside)
+    lines = ["docs %d" % beside] + [str(docid) for docid in room[:beside]]
+    return "\n".join(lines) + "\n"

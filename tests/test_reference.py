@@ -1,0 +1,862 @@
+"""Checks of the reference implementation: python3 tests/test_reference.py
+
+The marked examples and bounds of document 01, round trips on a fixed seed, a
+comparison with an exhaustive search, and a comparison with SQLite's FTS4.
+"""
+
+import sys
+
+sys.dont_write_bytecode = True
+
+import itertools
+import random
+import sqlite3
+import time
+
+import reference as ref
+
+SEED = 20240607
+NAMES = [b"node", b"sent", b"outcome"]
+NAME_BYTES = b"nodesentoutcome"
+NAME_ENDS = [4, 8, 15]
+P12 = bytes.fromhex(
+    "00 03 6E 31 32 03 07 02 00"
+    "00 05 70 72 6F 62 65 05 07 01 01 02 00"
+    "00 05 72 65 70 6C 79 06 07 01 02 02 03 00"
+)
+
+passed = 0
+failed = 0
+
+
+def check(name, got, expected):
+    """Count one comparison; print it when it fails."""
+    global passed, failed
+    if got == expected:
+        passed += 1
+    else:
+        failed += 1
+        if failed <= 20:
+            print("FAILED %s\n  got      %.300r\n  expected %.300r" % (name, got, expected))
+
+
+def ends_of(parts):
+    """The ends that cut the joined parts."""
+    return list(itertools.accumulate(len(part) for part in parts))
+
+
+def search(leaves, query, room_len=100):
+    """A search over the three columns of P12."""
+    return ref.search(NAME_BYTES, NAME_ENDS, b"".join(leaves), ends_of(leaves), query, room_len)
+
+
+def found(leaves, query):
+    """The docids that an accepted search lists."""
+    number, count, room = search(leaves, query, 100)
+    return room[:count] if number == 0 else (number, count)
+
+
+def leaf_of(docid, *texts):
+    """The leaf that the writer gives for one document."""
+    number, length, room = ref.write_leaf(docid, b"".join(texts), ends_of(texts), 65536)
+    assert number == 0
+    return room[:length]
+
+
+def canon(query):
+    """The printed tree of a query over the columns of P12."""
+    return ref.canonical(ref.read_query(query, NAMES))
+
+
+# Document 01, "Marked examples"
+
+
+def test_marked_examples():
+    """P1 to P15."""
+    h = bytes.fromhex
+    check("P1", ref.encode_varint(43), h("2B"))
+    check("P1", ref.read_varint(h("2B"), 0), (43, 1))
+    check("P2", ref.encode_varint(128), h("80 01"))
+    check("P2", ref.read_varint(h("80 01"), 0), (128, 2))
+    check("P3", ref.encode_varint(200815), h("EF A0 0C"))
+    check("P3", ref.read_varint(h("EF A0 0C"), 0), (200815, 3))
+    check("P4", ref.read_varint(h("80 00"), 0), None)
+    check("P5", ref.encode_varint(2**63 - 1), b"\xff" * 8 + b"\x7f")
+    check("P5", ref.read_varint(b"\xff" * 8 + b"\x7f", 0), (2**63 - 1, 9))
+    for last in range(256):
+        check("P6", ref.read_varint(b"\xff" * 9 + bytes([last]), 0), None)
+        check("P6", ref.read_varint(b"\x80" * 9 + bytes([last]), 0), None)
+    check("P7", ref.parse_doclist(h("07 02 00"), 3), [(7, [(0, [0])])])
+    check("P8", ref.parse_doclist(h("07 00"), 3), [(7, [])])
+    check("P9", ref.parse_doclist(h("07 02 02 00"), 3), None)
+    check("P10", ref.parse_doclist(h("07 02 00 00 02 00"), 3), None)
+    check("P11", ref.parse_doclist(h("07 01 00 02 00"), 3), None)
+    texts = [b"n12", b"probe", b"reply reply"]
+    check("P12", len(P12), 36)
+    check("P12", ref.write_leaf(7, b"".join(texts), ends_of(texts), 36), (0, 36, P12))
+    check("P12", ref.check_leaf(P12, 3), (0, 0))
+    check("P13", [w for _, _, w in ref.words(b"Right now, they're very frustrated")],
+          [b"right", b"now", b"they", b"re", b"very", b"frustrated"])
+    check("P14", canon(b"sqlite fantastic OR impressive"),
+          canon(b"(sqlite AND fantastic) OR impressive"))
+    check("P14", canon(b"sqlite fantastic OR impressive"),
+          "(OR (AND [65535 73716c697465] [65535 66616e746173746963])"
+          " [65535 696d7072657373697665])")
+    leaf = leaf_of(1, b"a x b", b"", b"")
+    check("P15", found([leaf], b"a NEAR/0 b"), [])
+    check("P15", found([leaf], b"b NEAR/1 a"), [1])
+
+
+def test_dropped_bytes():
+    """P12 with any one byte dropped is refused with 3 0, wherever a leaf goes."""
+    for at in range(len(P12)):
+        dropped = P12[:at] + P12[at + 1:]
+        check("dropped %d" % at, ref.check_leaf(dropped, 3), (3, 0))
+        check("dropped %d" % at, ref.lookup(dropped, 3, b"reply"), (3, 0, 0))
+        check("dropped %d" % at, search([dropped], b"reply", 2), (3, 0, [0, 0]))
+        check("dropped %d" % at, search([P12, dropped], b"reply", 2), (3, 1, [0, 0]))
+        check("dropped %d" % at, ref.one_search(b"reply", dropped), "refused 3 0\n")
+
+
+# Lent slices, stored numbers, words
+
+
+def test_lent():
+    """Document 01, "How things are lent"."""
+    check("cut", ref.cut(b"abc", [1, 1, 3]), [b"a", b"", b"bc"])
+    check("cut", ref.cut(b"", []), [])
+    check("cut", ref.cut(b"", [0, 0]), [b"", b""])
+    for s, ends in [(b"a", []), (b"abc", [2]), (b"abc", [2, 1, 3]), (b"abc", [4]),
+                    (b"abc", [3, 4]), (b"abc", [4, 3]), (b"", [1]), (b"a", [2**32 - 1])]:
+        check("cut", ref.cut(s, ends), None)
+    good = [[b"a"], [b"_"], [b"x" * 32], [b"a", b"b", b"aB_9"], [b"c%d" % i for i in range(16)]]
+    bad = [[], [b""], [b"x" * 33], [b"a", b"A"], [b"a-b"], [b"\xc3"], [b"a", b""],
+           [b"c%d" % i for i in range(17)], [b"ab", b"x", b"Ab"]]
+    for names in good:
+        check("names", ref.names_ok(b"".join(names), ends_of(names)), True)
+    for names in bad:
+        check("names", ref.names_ok(b"".join(names), ends_of(names)), False)
+    check("names", ref.names_ok(b"ab", [1]), False)
+    check("column_of", ref.column_of(NAMES, b"SENT"), 1)
+    check("column_of", ref.column_of(NAMES, b"sen"), None)
+    check("column_of", ref.column_of([b"a", b"B", b"b"], b"b"), 1)
+
+
+def test_varints(rng):
+    """Document 01, "Stored numbers"."""
+    for size in range(1, 10):
+        for v in (128 ** size - 1, 128 ** (size - 1) if size > 1 else 0):
+            check("size", ref.varint_size(v), size)
+            check("round", ref.read_varint(b"x" + ref.encode_varint(v) + b"y", 1), (v, size + 1))
+    for _ in range(2000):
+        v = rng.randrange(2 ** rng.randrange(1, 64))
+        encoded = ref.encode_varint(v)
+        check("round", ref.read_varint(encoded, 0), (v, len(encoded)))
+        check("short", ref.read_varint(encoded[:-1], 0), None)
+    for pair in itertools.product(range(256), repeat=2):
+        read = ref.read_varint(bytes(pair), 0)
+        if pair[0] < 128:
+            check("two bytes", read, (pair[0], 1))
+        elif 0 < pair[1] < 128:
+            check("two bytes", read, (pair[0] - 128 + 128 * pair[1], 2))
+        else:
+            check("two bytes", read, None)
+    check("at the end", ref.read_varint(b"a", 1), None)
+    check("past the end", ref.read_varint(b"a", 5), None)
+    check("write", ref.write_varint(b"abc", 128), ("bytes", 2, b"\x80\x01c"))
+    check("write", ref.write_varint(b"a", 128), ("noroom", 2, b"a"))
+    check("write", ref.write_varint(b"", 0), ("noroom", 1, b""))
+    check("write", ref.write_varint(b"abc", 2**63), ("toolarge", 0, b"abc"))
+    check("write", ref.write_varint(b"", 2**64 - 1), ("toolarge", 0, b""))
+
+
+def test_words():
+    """Document 01, "Words"."""
+    for byte in range(256):
+        text = bytes([byte])
+        letter = text.isalpha() or text.isdigit() or byte >= 128
+        check("byte", ref.words(text), [(0, 1, text.lower())] if letter else [])
+    check("words", ref.words(b" a_B\xc3\x89 "), [(1, 2, b"a"), (3, 6, b"b\xc3\x89")])
+    check("words", ref.words(b""), [])
+    check("next", ref.next_word(b" abc d", 0), ("found", 1, 4))
+    check("next", ref.next_word(b" abc d", 2), ("found", 2, 4))
+    check("next", ref.next_word(b" abc d", 4), ("found", 5, 6))
+    check("next", ref.next_word(b" abc d", 6), None)
+    check("next", ref.next_word(b"", 3), None)
+    check("next", ref.next_word(b"." + b"a" * 64, 0), ("found", 1, 65))
+    check("next", ref.next_word(b"." + b"a" * 65 + b".", 0), ("overlong", 1, 66))
+    check("next", ref.next_word(b"." + b"a" * 65 + b".", 2), ("found", 2, 66))
+
+
+# Posting lists and leaves
+
+
+def random_entries(rng, columns, small):
+    """Sound entries, with docids and positions of all sizes unless small."""
+    top_docid = 12 if small else 2 ** rng.randrange(4, 64)
+    top_position = 10 if small else 2 ** rng.randrange(4, 32)
+    docids = sorted({rng.randrange(top_docid) for _ in range(rng.randrange(1, 5))})
+    entries = []
+    for docid in docids:
+        some = sorted(rng.sample(range(columns), rng.randrange(0, min(columns, 3) + 1)))
+        entries.append((docid, [
+            (column, sorted({rng.randrange(top_position) for _ in range(rng.randrange(1, 5))}))
+            for column in some
+        ]))
+    return entries
+
+
+def random_leaf(rng, columns, small=False):
+    """Sound (term, entries) in order."""
+    alphabet = b"ab" if small else bytes([0, 97, 98, 200, 255])
+    top = 3 if small else 64
+    terms = {bytes(rng.choices(alphabet, k=rng.randrange(1, top + 1)))
+             for _ in range(rng.randrange(1, 8))}
+    return [(term, random_entries(rng, columns, small)) for term in sorted(terms)]
+
+
+def test_round_trips(rng):
+    """What is encoded is read back; what is accepted has no other form."""
+    for _ in range(400):
+        columns = rng.randrange(1, 17)
+        entries = random_entries(rng, columns, False)
+        doclist = ref.encode_doclist(entries)
+        check("doclist", ref.parse_doclist(doclist, columns), entries)
+        terms = random_leaf(rng, columns)
+        leaf = ref.encode_leaf(terms)
+        parsed = ref.parse_leaf(leaf, columns)
+        check("leaf", [(term, found) for term, found, _, _ in parsed], terms)
+        check("leaf", ref.check_leaf(leaf, columns), (0, 0))
+        for term, found_entries, start, end in parsed:
+            check("list", leaf[start:end], ref.encode_doclist(found_entries))
+            check("lookup", ref.lookup(leaf, columns, term), (0, end - start, start))
+    accepted = 0
+    for _ in range(4000):
+        columns = rng.randrange(1, 4)
+        leaf = bytearray(ref.encode_leaf(random_leaf(rng, columns, True)))
+        for _ in range(rng.randrange(1, 3)):
+            change = rng.randrange(3)
+            at = rng.randrange(len(leaf))
+            if change == 0:
+                leaf[at] = rng.randrange(256)
+            elif change == 1:
+                leaf.insert(at, rng.randrange(4))
+            elif len(leaf) > 1:
+                del leaf[at]
+        parsed = ref.parse_leaf(bytes(leaf), columns)
+        check("answered", ref.check_leaf(bytes(leaf), columns), (0 if parsed else 3, 0))
+        if parsed is not None:
+            accepted += 1
+            again = ref.encode_leaf([(term, entries) for term, entries, _, _ in parsed])
+            check("one form", again, bytes(leaf))
+    check("some changed leaves are sound", accepted > 100, True)
+    for _ in range(3000):
+        junk = bytes(rng.choices(range(4), k=rng.randrange(0, 9)))
+        entries = ref.parse_doclist(junk, 3)
+        if entries is not None:
+            check("one form", ref.encode_doclist(entries), junk)
+
+
+def test_rules():
+    """Single rules of a posting list and of a leaf."""
+    h = bytes.fromhex
+    lists = [
+        ("", 3, False), ("07", 3, False), ("07 02", 3, False), ("07 01 01 02 00", 3, True),
+        ("07 01 01 02 00", 2, True), ("07 01 01 02 00", 1, False), ("07 01 01 00", 3, False),
+        ("07 01 02 02 01 01 02 00", 3, False), ("07 01 01 02 01 01 02 00", 3, False),
+        ("07 02 01 01 02 01 02 02 00", 3, True), ("07 02 03 00 01 02 00", 3, True),
+        ("00 00", 3, True), ("00 00 00 00", 3, False), ("07 00 01 00", 3, True),
+        ("07 02 00 05", 3, False), ("07 01 01 01 02 02 00", 3, False), ("07 80 00", 3, False),
+        ("FF FF FF FF FF FF FF FF 7F 00", 3, True),
+        ("FF FF FF FF FF FF FF FF 7F 00 01 00", 3, False),
+        ("FE FF FF FF FF FF FF FF 7F 00 01 00", 3, True),
+        ("07 81 80 80 80 08 00", 3, True), ("07 82 80 80 80 08 00", 3, False),
+        ("07 80 80 80 80 08 03 00", 3, True), ("07 80 80 80 80 08 04 00", 3, False),
+    ]
+    for text, columns, sound in lists:
+        check("list " + text, ref.parse_doclist(h(text), columns) is not None, sound)
+        leaf = b"\x00\x01a" + ref.encode_varint(len(h(text))) + h(text)
+        check("in a leaf " + text, ref.check_leaf(leaf, columns), (0 if sound else 3, 0))
+    check("top position", ref.parse_doclist(h("07 81 80 80 80 08 00"), 1),
+          [(7, [(0, [2**31 - 1])])])
+    check("sums start anew", ref.parse_doclist(h("07 05 01 01 05 00"), 2),
+          [(7, [(0, [3]), (1, [3])])])
+    leaves = [
+        ("", False), ("00", False), ("01 01 61 02 07 00", False), ("80 00 01 61 02 07 00", False),
+        ("00 01 61 02 07 00", True), ("00 01 61 02 07 00 00", False), ("00 00 02 07 00", False),
+        ("00 01 61 00", False), ("00 01 61 03 07 00", False), ("00 02 61", False),
+        ("00 01 61 02 07 00 00 01 62 02 07 00", True),
+        ("00 01 62 02 07 00 00 01 61 02 07 00", False),
+        ("00 01 61 02 07 00 00 01 61 02 07 00", False),
+        ("00 01 61 02 07 00 01 01 61 02 07 00", True),
+        ("00 01 61 02 07 00 00 02 61 61 02 07 00", False),
+        ("00 01 61 02 07 00 01 00 02 07 00", False),
+        ("00 01 61 02 07 00 02 01 61 02 07 00", False),
+        ("00 02 61 61 02 07 00 01 01 62 02 07 00", True),
+        ("00 02 61 61 02 07 00 00 02 61 62 02 07 00", False),
+        ("00 02 61 62 02 07 00 01 01 61 02 07 00", False),
+    ]
+    for text, sound in leaves:
+        check("leaf " + text, ref.check_leaf(h(text), 3), (0 if sound else 3, 0))
+    for length, number in [(1, 0), (64, 0), (65, 3)]:
+        leaf = b"\x00" + ref.encode_varint(length) + b"a" * length + b"\x02\x07\x00"
+        check("word %d" % length, ref.check_leaf(leaf, 3), (number, 0))
+        leaf = b"\x00\x01a\x02\x07\x00\x01" + bytes([length]) + b"b" * length + b"\x02\x07\x00"
+        check("suffix %d" % length, ref.check_leaf(leaf, 3), (3 if length > 63 else 0, 0))
+    for columns in (-1, 0, 17, 2**32):
+        check("columns", ref.check_leaf(P12, columns), (1, 0))
+    check("columns", ref.check_leaf(P12, 2), (3, 0))
+    check("columns", ref.check_leaf(P12, 16), (0, 0))
+    check("bytes", ref.check_leaf(bytes(65536), 3), (3, 0))
+    check("bytes", ref.check_leaf(bytes(65537), 3), (1, 0))
+
+
+def test_lookups():
+    """Document 01, "Lookups"."""
+    check("lookup", ref.lookup(P12, 3, b"reply"), (0, 6, 30))
+    check("lookup", ref.lookup(P12, 3, b"n12"), (0, 3, 6))
+    check("lookup", ref.lookup(P12, 3, b"Reply"), (0, 0, 0))
+    check("lookup", ref.lookup(P12, 3, b"repl"), (0, 0, 0))
+    check("lookup", ref.lookup(P12, 3, b"a" * 64), (0, 0, 0))
+    for columns, word in [(3, b""), (3, b"a" * 65), (0, b"a"), (17, b"a")]:
+        check("lookup", ref.lookup(P12, columns, word), (1, 0, 0))
+        check("lookup", ref.lookup(b"", columns, word), (1, 0, 0))
+        check("deciding", ref.deciding(P12, P12, columns, word, 7), (1, 0, 0, 0))
+    check("lookup", ref.lookup(b"", 3, b"a"), (3, 0, 0))
+    newer = ref.encode_leaf([(b"a", [(5, []), (9, [(1, [4])])])])
+    older = ref.encode_leaf([(b"a", [(5, [(0, [1])]), (6, [(0, [2])]), (300, [])]),
+                             (b"b", [(9, [(0, [0])])])])
+    answers = [(b"a", 5, (0, 2, 0, 4)), (b"a", 9, (0, 5, 0, 6)), (b"a", 6, (0, 3, 1, 7)),
+               (b"a", 300, (0, 3, 1, 10)), (b"b", 9, (0, 3, 1, 17)), (b"a", 7, (0, 0, 0, 0)),
+               (b"c", 5, (0, 0, 0, 0)), (b"a", 2**63 - 1, (0, 0, 0, 0)), (b"a", -1, (1, 0, 0, 0))]
+    for word, docid, answer in answers:
+        check("deciding", ref.deciding(newer, older, 2, word, docid), answer)
+    check("deciding", newer[6:11], bytes.fromhex("04 01 01 06 00"))
+    check("deciding", older[10:13], bytes.fromhex("A6 02 00"))
+    check("deciding", ref.deciding(b"", b"", 2, b"a", 5), (3, 0, 0, 0))
+    check("deciding", ref.deciding(newer, b"", 2, b"a", 5), (3, 1, 0, 0))
+    check("deciding", ref.deciding(b"", older, 2, b"a", 5), (3, 0, 0, 0))
+    check("deciding", ref.deciding(newer, bytes(65536 - len(newer)), 2, b"a", 5), (3, 1, 0, 0))
+    check("deciding", ref.deciding(newer, bytes(65537 - len(newer)), 2, b"a", 5), (1, 0, 0, 0))
+
+
+def test_writer(rng):
+    """The writer: number 1, then 5, then 4."""
+    check("no words", ref.write_leaf(7, b" ,_", [1, 3], 4), (0, 0, bytes(4)))
+    check("no words", ref.write_leaf(7, b"", [0], 0), (0, 0, b""))
+    check("no columns", ref.write_leaf(7, b"", [], 2), (1, 0, bytes(2)))
+    check("columns", ref.write_leaf(7, b"", [0] * 16, 2), (0, 0, bytes(2)))
+    check("columns", ref.write_leaf(7, b"", [0] * 17, 2), (1, 0, bytes(2)))
+    check("ends", ref.write_leaf(7, b"ab", [1], 9), (1, 0, bytes(9)))
+    check("docid", ref.write_leaf(-1, b"ab", [2], 9), (1, 0, bytes(9)))
+    check("bytes", ref.write_leaf(7, b" " * 4096, [4096], 0), (0, 0, b""))
+    check("bytes", ref.write_leaf(7, b" " * 4097, [4097], 0), (1, 0, b""))
+    long_word = b"a" * 65
+    check("64", ref.write_leaf(7, b"a" * 64, [64], 70)[:2], (0, 70))
+    check("65", ref.write_leaf(7, long_word, [65], 0), (5, 0, b""))
+    check("65", ref.write_leaf(7, b"b " + long_word * 2, [2, 2, 67, 132], 3), (5, 2, bytes(3)))
+    for room in range(40):
+        expected = (0, 36, P12 + bytes(room - 36)) if room >= 36 else (4, 36, bytes(room))
+        check("room", ref.write_leaf(7, b"n12probereply reply", [3, 8, 19], room), expected)
+    for _ in range(200):
+        texts = [bytes(rng.choices(b"abAB .\xc3", k=rng.randrange(30))) for _ in range(3)]
+        docid = rng.randrange(2 ** rng.randrange(1, 64))
+        number, length, room = ref.write_leaf(docid, b"".join(texts), ends_of(texts), 300)
+        check("written", number, 0)
+        check("rest", room[length:], bytes(300 - length))
+        if length:
+            check("sound", ref.check_leaf(room[:length], 3), (0, 0))
+            grid = {}
+            for term, entries, _, _ in ref.parse_leaf(room[:length], 3):
+                check("docid", [docid], [e[0] for e in entries])
+                for column, positions in entries[0][1]:
+                    grid.update({(column, position): term for position in positions})
+            expected = {(c, p): w[2] for c, t in enumerate(texts)
+                        for p, w in enumerate(ref.words(t))}
+            check("places", grid, expected)
+
+
+# Queries
+
+
+def test_queries():
+    """Document 01, "The query language"."""
+    a, b, c, d = ("[65535 %02x]" % byte for byte in b"abcd")
+    trees = [
+        (b"a", a), (b" \t\n\x0b\x0c\ra\n", a), (b"A", a), (b"a*", "[65535 61*]"),
+        (b"a b", "(AND %s %s)" % (a, b)), (b"a AND b", "(AND %s %s)" % (a, b)),
+        (b"a b c", "(AND (AND %s %s) %s)" % (a, b, c)),
+        (b"a OR b OR c", "(OR (OR %s %s) %s)" % (a, b, c)),
+        (b"a NOT b NOT c", "(NOT (NOT %s %s) %s)" % (a, b, c)),
+        (b"a NOT b c", "(AND (NOT %s %s) %s)" % (a, b, c)),
+        (b"a b NOT c", "(AND %s (NOT %s %s))" % (a, b, c)),
+        (b"a OR b c", "(OR %s (AND %s %s))" % (a, b, c)),
+        (b"a OR b NOT c AND d", "(OR %s (AND (NOT %s %s) %s))" % (a, b, c, d)),
+        (b"a NOT b NEAR c", "(NOT %s (NEAR %s ~ %s))" % (a, b, c)),
+        (b"a NEAR b NEAR/3 c", "(NEAR %s ~ %s ~3 %s)" % (a, b, c)),
+        (b"a NEAR/10 b", "(NEAR %s ~10 %s)" % (a, b)),
+        (b"a NEAR/0012 b", "(NEAR %s ~12 %s)" % (a, b)),
+        (b"a NEAR/9999 b", "(NEAR %s ~9999 %s)" % (a, b)),
+        (b"a NEAR/0 b c", "(AND (NEAR %s ~0 %s) %s)" % (a, b, c)),
+        (b'a NEAR/2"b c"', "(NEAR %s ~2 [65535 62 63])" % a),
+        (b"(a)", a), (b"a(b)", "(AND %s %s)" % (a, b)), (b"(a)(b)", "(AND %s %s)" % (a, b)),
+        (b"a AND(b)", "(AND %s %s)" % (a, b)),
+        (b"a (b OR c) d", "(AND (AND %s (OR %s %s)) %s)" % (a, b, c, d)),
+        (b"a NOT (b c)", "(NOT %s (AND %s %s))" % (a, b, c)),
+        (b'a"b c"d', "(AND (AND %s [65535 62 63]) %s)" % (a, d)),
+        (b'"a*b"', "[65535 61* 62]"), (b'"a *b"', "[65535 61 62]"),
+        (b'"*a**b*"', "[65535 61* 62*]"), (b'"A_b(c)"', "[65535 61 62 63]"),
+        (b'"a AND b:c"', "[65535 61 616e64 62 63]"), (b'"a\x00b"', "[65535 61 62]"),
+        (b"node:a", "[1 61]"), (b"SENT:a*", "[2 61*]"), (b"Outcome:A", "[4 61]"),
+        (b'node:b"c"', "(AND [1 62] %s)" % c), (b"node:AND", "[1 616e64]"),
+        (b"node:a NEAR node:b", "(NEAR [1 61] ~ [1 62])"),
+        (b"AND*", "[65535 616e64*]"), (b"near", "[65535 6e656172]"), (b"Or", "[65535 6f72]"),
+        (b"NEARx", "[65535 6e65617278]"), (b"\xc3\x89a", "[65535 c38961]"),
+        (b"a" * 64, "[65535 " + "61" * 64 + "]"), (b"node:" + b"a" * 64 + b"*",
+                                                 "[1 " + "61" * 64 + "*]"),
+    ]
+    for query, tree in trees:
+        check("query %r" % query[:40], canon(query), tree)
+    refused = [
+        b"", b" ", b"()", b"(())", b"a ()", b"(", b")", b"(a", b"a)", b"a)(b", b'"', b'""', b'"a',
+        b'a"', b'"*"', b'" _"', b"AND", b"a AND", b"AND a", b"a AND AND b", b"a AND NOT b",
+        b"NOT a", b"a OR", b"a OR OR b", b"a NOT", b"a NEAR", b"NEAR a", b"NEAR/3 a",
+        b"a NEAR NEAR b", b"a NEAR AND b", b"(a) NEAR b", b"a NEAR (b)", b"a NEAR b NEAR (c)",
+        b"a NEAR/ b", b"a NEAR/12345 b", b"a NEAR/x b", b"a NEAR/-1 b", b"a NEAR/1a b",
+        b"a near/1 b", b"node:", b"node:*", b"*", b"a**", b"*a", b"a*b", b"node:a:b", b"nod:a",
+        b":a", b"node: a", b'node:"a"', b"node:(a)", b"a-b", b"-a", b"a_b", b"^a", b"a'b", b"a\x00",
+        b"a\x1fb", b"a\x0eb", b"a\x08", b"node:\xff:", b"a" * 65, b'"' + b"a" * 65 + b'"',
+        b"node :a", b"a:b",
+    ]
+    for query in refused:
+        check("query %r" % query[:40], canon(query), "refused")
+    check("16 words", canon(b"a " * 16) != "refused", True)
+    check("17 words", canon(b"a " * 17), "refused")
+    check("16 words", canon(b'"' + b"a " * 15 + b'" a') != "refused", True)
+    check("17 words", canon(b'"' + b"a " * 16 + b'" a'), "refused")
+    check("8 deep", canon(b"(" * 8 + b"a" + b")" * 8), a)
+    check("9 deep", canon(b"(" * 9 + b"a" + b")" * 9), "refused")
+    check("8 deep twice", canon((b"(" * 8 + b"a" + b")" * 8) * 2), "(AND %s %s)" % (a, a))
+    check("512 bytes", canon(b"a" + b" " * 511), a)
+    check("513 bytes", canon(b"a" + b" " * 512), "refused")
+    check("513 bytes", canon(b" " * 512 + b"a"), "refused")
+
+
+# Search
+
+
+def grid_of(leaves, columns):
+    """The live rows as {docid: {(column, position): terms}}, newest leaf first."""
+    parsed = [ref.parse_leaf(leaf, columns) for leaf in leaves]
+    pairs = {(t, e[0]) for leaf in parsed for t, entries, _, _ in leaf for e in entries}
+    grid = {}
+    for term, docid in pairs:
+        entries = [e for leaf in parsed for t, es, _, _ in leaf for e in es
+                   if t == term and e[0] == docid]
+        for column, positions in entries[0][1]:
+            for position in positions:
+                row = grid.setdefault(docid, {})
+                row.setdefault((column, position), set()).add(term)
+    return grid
+
+
+def stands_at(terms, word, star):
+    """Whether one of the terms at a place is the query word."""
+    return any(term.startswith(word) if star else term == word for term in terms)
+
+
+def occurrences(row, phrase):
+    """All (column, first, last) of a phrase in one row, by trying every place."""
+    _, column_set, phrase_words = phrase
+    out = []
+    for column, first in row:
+        if column_set >> column & 1 and all(
+            stands_at(row.get((column, first + i), ()), word, star)
+            for i, (word, star) in enumerate(phrase_words)
+        ):
+            out.append((column, first, first + len(phrase_words) - 1))
+    return out
+
+
+def near(one, other, distance):
+    """Whether two occurrences are near, by counting the places between them."""
+    between = [p for p in range(20)
+               if one[2] < p < other[1] or other[2] < p < one[1]]
+    return one[0] == other[0] and len(between) <= distance
+
+
+def holds(row, tree):
+    """Whether one row satisfies a tree, by trying every choice."""
+    if tree[0] == "phrase":
+        return bool(occurrences(row, tree))
+    if tree[0] == "near":
+        distances = [10 if n is None else n for n in tree[2]]
+        for choice in itertools.product(*[occurrences(row, phrase) for phrase in tree[1]]):
+            if all(near(x, y, n) for x, y, n in zip(choice, choice[1:], distances)):
+                return True
+        return False
+    left, right = holds(row, tree[1]), holds(row, tree[2])
+    return {"and": left and right, "or": left or right, "not": left and not right}[tree[0]]
+
+
+def random_phrase(rng, vocabulary, names, letter=None):
+    """A random word or phrase in the syntax, its last word of a given letter."""
+    last = [w for w in vocabulary if letter is None or w[:1] == letter]
+    if rng.random() < 0.3:
+        chosen = [rng.choice(vocabulary) for _ in range(rng.randrange(0, 2))] + [rng.choice(last)]
+        marked = [w + rng.choice([b"", b"", b"*"]) for w in chosen]
+        return b'"' + b" ".join(marked) + b'"'
+    column = rng.choice(names) + b":" if rng.random() < 0.2 else b""
+    return column + rng.choice(last) + rng.choice([b"", b"", b"*"])
+
+
+def random_chain(rng, vocabulary, names, letters):
+    """A random NEAR chain; with letters, no two operands end in the same word."""
+    count = rng.randrange(2, 4)
+    ends = rng.sample(letters, count) if letters else [None] * count
+    out = random_phrase(rng, vocabulary, names, ends[0])
+    for letter in ends[1:]:
+        link = rng.choice([b" NEAR ", b" NEAR/%d " % rng.randrange(4)])
+        out += link + random_phrase(rng, vocabulary, names, letter)
+    return out
+
+
+def random_query(rng, vocabulary, names, letters, depth=2):
+    """A random query in the language, 16 words at most for the depths used."""
+    parts = []
+    for _ in range(rng.choice([1, 1, 2, 3])):
+        kind = rng.random()
+        if kind < 0.2 and depth:
+            inner = random_query(rng, vocabulary, names, letters, depth - 1)
+            parts.append(b"(" + inner + b")")
+        elif kind < 0.5:
+            parts.append(random_chain(rng, vocabulary, names, letters))
+        else:
+            parts.append(random_phrase(rng, vocabulary, names))
+    out = parts[0]
+    for part in parts[1:]:
+        out += rng.choice([b" ", b" AND ", b" OR ", b" NOT "]) + part
+    return out
+
+
+def test_search_exhaustive(rng):
+    """Random searches against an exhaustive one over the live rows."""
+    compared = listed = 0
+    for _ in range(150):
+        leaves = [ref.encode_leaf(random_leaf(rng, 3, True)) for _ in range(rng.randrange(0, 5))]
+        grid = grid_of(leaves, 3)
+        for _ in range(12):
+            query = random_query(rng, [b"a", b"b", b"ab", b"ba"], NAMES, None)
+            tree = ref.read_query(query, NAMES)
+            if tree is None:
+                continue
+            expected = sorted(docid for docid, row in grid.items() if holds(row, tree))
+            check("search %r" % query, found(leaves, query), expected)
+            compared += 1
+            listed += bool(expected)
+    check("searches compared", compared > 1500 and listed > 500, True)
+
+
+def test_search():
+    """The order of the checks, the room, and errors met before."""
+    check("P12", search([P12], b"reply", 2), (0, 1, [7, 0]))
+    check("no leaves", search([], b"reply", 2), (0, 0, [0, 0]))
+    check("no leaves", search([], b"reply", 0), (0, 0, []))
+    check("room", search([P12], b"reply", 1), (0, 1, [7]))
+    check("room", search([P12], b"reply", 0), (4, 1, []))
+    two = ref.encode_leaf([(b"a", [(3, [(0, [0])]), (9, [(0, [0])]), (2**63 - 1, [(0, [0])])])])
+    check("room", search([two], b"a", 2), (4, 3, [0, 0]))
+    check("room", search([two], b"a", 3), (0, 3, [3, 9, 2**63 - 1]))
+    check("8 leaves", search([P12] * 8, b"reply", 2), (0, 1, [7, 0]))
+    check("9 leaves", search([P12] * 9, b"reply", 2), (1, 0, [0, 0]))
+    check("8 leaves", search([P12] * 7 + [b""], b"reply", 2), (3, 7, [0, 0]))
+    check("9 leaves", search([P12] * 8 + [b""], b"reply", 2), (1, 0, [0, 0]))
+    check("65536", search([bytes(65536)], b"reply", 2), (3, 0, [0, 0]))
+    check("65537", search([bytes(65537)], b"reply", 2), (1, 0, [0, 0]))
+    check("1 before 2", search([bytes(65537)], b"", 2), (1, 0, [0, 0]))
+    check("2 before 3", search([b""], b"", 2), (2, 0, [0, 0]))
+    check("3 before 4", search([two, b""], b"a", 0), (3, 1, []))
+    check("names", ref.search(b"aA", [1, 2], b"", [], b"", 1), (1, 0, [0]))
+    check("names", ref.search(b"", [], b"", [], b"", 1), (1, 0, [0]))
+    check("names", ref.search(b"ab", [1], b"", [], b"", 1), (1, 0, [0]))
+    check("ends", ref.search(b"a", [1], b"a", [], b"a", 1), (1, 0, [0]))
+    check("column count", ref.search(b"a", [1], P12, [36], b"a", 1), (3, 0, [0]))
+
+    place = [(0, [0])]
+    old = ref.encode_leaf([(b"a", [(1, place)]), (b"b", [(1, [(0, [1])])])])
+    gone = ref.encode_leaf([(b"a", [(1, [])])])
+    check("deletion", found([gone, old], b"a"), [])
+    check("deletion", found([old, gone], b"a"), [1])
+    check("deletion of one word", found([gone, old], b"b"), [1])
+    check("deletion of one word", found([gone, old], b"b NOT a"), [1])
+    check("star", found([gone, old], b"a*"), [])
+    moved = ref.encode_leaf([(b"a", [(1, [(2, [5])])])])
+    check("newest decides", found([moved, old], b"node:a"), [])
+    check("newest decides", found([moved, old], b"outcome:a"), [1])
+    row = leaf_of(4, b"x a", b"b y", b"a b")
+    check("two columns", found([row], b"node:a NEAR sent:b"), [])
+    check("two columns", found([row], b'"x a b"'), [])
+    check("one column", found([row], b'"a b"'), [4])
+    check("sums", found([leaf_of(4, b"x x a", b"a", b"")], b'"x x a" NEAR/0 a'), [4])
+    check("or looser than and", found([leaf_of(4, b"impressive", b"", b"")],
+                                      b"sqlite fantastic OR impressive"), [4])
+    line = leaf_of(1, b"a x y b c", b"", b"")
+    for query, docids in [
+        (b"a NEAR/2 b", [1]), (b"a NEAR/1 b", []), (b"c NEAR/0 b NEAR/2 a", [1]),
+        (b"a NEAR/0 a", [1]), (b"b NEAR b NEAR/0 b", [1]), (b"a NEAR/2 b NEAR/2 a", [1]),
+        (b'"x y" NEAR/0 "y b"', [1]), (b'"a x" NEAR/0 "b c"', []), (b'"a x" NEAR/1 "b c"', [1]),
+        (b'"a x y b c" NEAR/0 y', [1]), (b'"a* x* y*"', [1]), (b'"a y"', []), (b"c NEAR a", [1]),
+        (b"c NEAR/1 x NEAR/0 a", []), (b"c NEAR/2 x NEAR/0 a", [1]),
+    ]:
+        check("near %r" % query, found([line], query), docids)
+    ten = leaf_of(1, b"a 1 2 3 4 5 6 7 8 9 10 b", b"", b"")
+    eleven = leaf_of(1, b"a 1 2 3 4 5 6 7 8 9 10 11 b", b"", b"")
+    check("bare NEAR", found([ten], b"b NEAR a"), [1])
+    check("bare NEAR", found([eleven], b"b NEAR a"), [])
+    check("NEAR/10", found([eleven], b"b NEAR/10 a"), [])
+    check("NEAR/11", found([eleven], b"b NEAR/11 a"), [1])
+
+
+def test_program():
+    """The program's output."""
+    check("program", ref.one_search(b"reply", P12), "docs 1\n7\n")
+    check("program", ref.one_search(b"reply\n", P12), "docs 1\n7\n")
+    check("program", ref.one_search(b"nothing", P12), "docs 0\n")
+    check("program", ref.one_search(b"sent:reply", P12), "docs 0\n")
+    check("program", ref.one_search(b"", P12), "refused 2 0\n")
+    check("program", ref.one_search(b"reply", b""), "refused 3 0\n")
+    check("program", ref.one_search(b"reply", None), "no leaf\n")
+    check("program", ref.one_search(b"x" * 513, None), "no leaf\n")
+    check("program", ref.one_search(None, P12), "refused 2 0\n")
+    check("program", ref.one_search(b"x" * 513, bytes(65537)), "refused 1 0\n")
+    check("program", ref.one_search(b"reply", bytes(65537)), "refused 1 0\n")
+    check("program", ref.one_search(b"reply", bytes(65536)), "refused 3 0\n")
+    check("program", ref.one_search(b"reply" + b" " * 507, P12), "docs 1\n7\n")
+    check("program", ref.one_search(b"reply" + b" " * 507 + b"\n", P12), "refused 2 0\n")
+    many = ref.encode_leaf([(b"a", [(d, [(0, [0])]) for d in range(4096)])])
+    lines = ["docs 4096"] + [str(d) for d in range(4096)]
+    check("program", ref.one_search(b"a", many), "\n".join(lines) + "\n")
+    many = ref.encode_leaf([(b"a", [(d, [(0, [0])]) for d in range(4097)])])
+    check("program", ref.one_search(b"a", many), "refused 4 4097\n")
+
+
+def test_any_input(rng):
+    """Junk of every kind gets an answer."""
+    for _ in range(3000):
+        junk = bytes(rng.choices(b' ()"*:/abANDORNEAR\x00\xff129', k=rng.randrange(0, 30)))
+        ends = [rng.randrange(2**32) if rng.random() < 0.1 else rng.randrange(31)
+                for _ in range(rng.randrange(0, 4))]
+        tree = ref.read_query(junk, NAMES)
+        check("junk", found([P12], junk) == (2, 0), tree is None)
+        check("junk", ref.search(junk, ends, junk, ends, junk, 1)[0] in range(5), True)
+        check("junk", ref.write_leaf(1, junk, ends, 9)[0] in (0, 1, 4), True)
+        check("junk", ref.lookup(junk, 3, junk)[0] in (0, 1, 3), True)
+
+
+def test_time():
+    """A search over 65,536 bytes of leaves ends within a few seconds."""
+    docids = range(1, 21800)
+    one_row = ref.encode_leaf([(b"a", [(1, [(0, list(range(65528)))])])])
+    rows = ref.encode_leaf([(b"a", [(docid, [(0, [0])]) for docid in docids])])
+    triples = ["a" + x + y + z for x, y, z in itertools.product("abcdefghijklmnopqrst", repeat=3)]
+    many = ref.encode_leaf([(t.encode(), [(1, [(0, [i])])]) for i, t in enumerate(triples)])
+    worst = 0
+    for leaf, count in ((one_row, 1), (rows, len(docids)), (many, 1)):
+        check("leaf size", 60000 < len(leaf) <= 65536, True)
+        for query in (b"a* NEAR " * 15 + b"a*", b'"' + b"a* " * 8 + b'" OR ' + b"a " * 8):
+            started = time.time()
+            answer = ref.search(b"c", [1], leaf, [len(leaf)], query, 65536)[:2]
+            worst = max(worst, time.time() - started)
+            check("large search", answer, (0, count))
+    print("slowest large search: %.2f s" % worst)
+
+
+# SQLite
+
+
+def sqlite_has_enhanced_syntax():
+    """Whether this SQLite has FTS4 with the enhanced query syntax."""
+    with_option = "select sqlite_compileoption_used('ENABLE_FTS3_PARENTHESIS')"
+    connection = sqlite3.connect(":memory:")
+    try:
+        connection.execute("create virtual table t using fts4(a)")
+        return connection.execute(with_option).fetchone()[0] == 1
+    except sqlite3.Error:
+        return False
+    finally:
+        connection.close()
+
+
+def new_table():
+    """A table with the columns of P12 and pages large enough for one leaf."""
+    connection = sqlite3.connect(":memory:", isolation_level=None)
+    connection.execute("pragma page_size=65536")
+    connection.execute("create virtual table t using fts4(node, sent, outcome, tokenize=simple)")
+    return connection
+
+
+def table_leaves(connection):
+    """The table's leaves, newest first, or None when one is not of height 0."""
+    roots = connection.execute("select root from t_segdir order by level, idx desc").fetchall()
+    leaves = [bytes(root) for root, in roots]
+    return leaves if all(leaf[:1] == b"\x00" for leaf in leaves) else None
+
+
+def random_text(rng, vocabulary):
+    """A text for one column, as a str."""
+    chosen = [rng.choice(vocabulary).decode() for _ in range(rng.randrange(0, 7))]
+    return rng.choice([" ", ", ", "_"]).join(w.upper() if rng.random() < 0.2 else w for w in chosen)
+
+
+def change_table(rng, connection, vocabulary, transactions):
+    """Random inserts, updates and deletions, one leaf to a transaction."""
+    docids = set()
+    for _ in range(transactions):
+        connection.execute("begin")
+        for _ in range(rng.randrange(1, 6)):
+            docid = rng.choice([rng.randrange(12), rng.randrange(12), rng.randrange(2**40)])
+            texts = [random_text(rng, vocabulary) for _ in NAMES]
+            if docid not in docids:
+                connection.execute("insert into t(docid, node, sent, outcome) values(?,?,?,?)",
+                                   [docid] + texts)
+                docids.add(docid)
+            elif rng.random() < 0.5:
+                connection.execute("update t set node=?, sent=?, outcome=? where docid=?",
+                                   texts + [docid])
+            else:
+                connection.execute("delete from t where docid=?", [docid])
+                docids.discard(docid)
+        connection.execute("commit")
+        if rng.random() < 0.05:
+            connection.execute("insert into t(t) values('optimize')")
+
+
+def chains(tree):
+    """All NEAR chains of a tree."""
+    if tree[0] == "near":
+        return [tree]
+    return [] if tree[0] == "phrase" else chains(tree[1]) + chains(tree[2])
+
+
+def same_meaning(tree):
+    """Whether no two operands of a chain can end at the same position.
+
+    SQLite does not take two such occurrences as near; document 01 does.
+    """
+    for _, phrases, _ in chains(tree):
+        letters = [phrase[2][-1][0][:1] for phrase in phrases]
+        if len(set(letters)) < len(letters):
+            return False
+    return True
+
+
+def sqlite_docids(connection, query):
+    """The docids that SQLite gives for a query, rising, or None for an error."""
+    try:
+        rows = connection.execute("select docid from t where t match ?", [query.decode()])
+        return sorted(docid for docid, in rows)
+    except sqlite3.Error:
+        return None
+
+
+def soup(rng, vocabulary):
+    """A random row of tokens, often not in the language."""
+    pieces = [b"(", b")", b"AND", b"OR", b"NOT", b"NEAR", b"NEAR/1", b'"', b"*", b"node:",
+              b"near", b"OUTCOME:"] + vocabulary * 2
+    out = b""
+    for _ in range(rng.randrange(1, 9)):
+        out += rng.choice(pieces) + rng.choice([b" ", b" ", b" ", b""])
+    return out
+
+
+def test_sqlite_writer(rng, vocabulary):
+    """The leaf that SQLite stores for one document is the writer's, byte by byte."""
+    for _ in range(60):
+        connection = new_table()
+        docid = rng.randrange(2 ** rng.randrange(1, 63))
+        texts = [random_text(rng, vocabulary) for _ in NAMES]
+        connection.execute("insert into t(docid, node, sent, outcome) values(?,?,?,?)",
+                           [docid] + texts)
+        encoded = [text.encode() for text in texts]
+        number, length, room = ref.write_leaf(docid, b"".join(encoded), ends_of(encoded), 4096)
+        stored = table_leaves(connection)
+        check("sqlite writer", [room[:length]] if length else [], stored)
+        connection.close()
+
+
+def test_sqlite_search(rng, vocabulary, letters):
+    """SQLite's leaves are sound, and both list the same docids."""
+    compared = listed = only_here = only_there = several = 0
+    for round_number in range(40):
+        connection = new_table()
+        transactions = rng.randrange(16, 22) if round_number % 3 == 0 else rng.randrange(1, 9)
+        change_table(rng, connection, vocabulary, transactions)
+        leaves = table_leaves(connection)
+        if leaves is None or len(leaves) > 8 or sum(map(len, leaves)) > 65536:
+            connection.close()
+            continue
+        several += len(leaves) > 1
+        for leaf in leaves:
+            parsed = ref.parse_leaf(leaf, 3)
+            check("sqlite leaf", parsed is not None, True)
+            if parsed is not None:
+                again = ref.encode_leaf([(term, entries) for term, entries, _, _ in parsed])
+                check("sqlite leaf", again, leaf)
+        for number in range(130):
+            if number % 3 == 0:
+                query = soup(rng, vocabulary)
+            else:
+                query = random_query(rng, vocabulary, NAMES, letters)
+            tree = ref.read_query(query, NAMES)
+            theirs = sqlite_docids(connection, query)
+            if tree is None or theirs is None:
+                only_here += tree is not None
+                only_there += theirs is not None
+            elif same_meaning(tree):
+                check("sqlite %r" % query, found(leaves, query), theirs)
+                compared += 1
+                listed += bool(theirs)
+        connection.close()
+    check("sqlite queries compared", compared > 2500 and listed > 1000 and several > 20, True)
+    check("accepted here, an error in SQLite", only_here, 0)
+    print("SQLite %s: %d queries compared, %d with docids, %d in SQLite's language only"
+          % (sqlite3.sqlite_version, compared, listed, only_there))
+
+
+def test_sqlite(rng):
+    """Comparisons with SQLite, where it has the enhanced syntax."""
+    if not sqlite_has_enhanced_syntax():
+        print("SQLite here lacks FTS4 with the enhanced syntax: not compared")
+        return
+    vocabulary = [w.encode() for w in ("a", "ab", "abc", "b", "ba", "bac", "c", "ca", "é", "éa")]
+    letters = [b"a", b"b", b"c", "é".encode()[:1]]
+    test_sqlite_writer(rng, vocabulary)
+    test_sqlite_search(rng, vocabulary, letters)
+
+
+def main():
+    """Run everything, print the counts, and give the exit status."""
+    started = time.time()
+    test_marked_examples()
+    test_dropped_bytes()
+    test_lent()
+    test_varints(random.Random(SEED))
+    test_words()
+    test_round_trips(random.Random(SEED))
+    test_rules()
+    test_lookups()
+    test_writer(random.Random(SEED))
+    test_queries()
+    test_search()
+    test_search_exhaustive(random.Random(SEED))
+    test_program()
+    test_any_input(random.Random(SEED))
+    test_time()
+    test_sqlite(random.Random(SEED))
+    print("time: %.1f s" % (time.time() - started))
+    print("%d passed, %d failed" % (passed, failed))
+    return 1 if failed else 0
+
+
+if __name__ == "__main__":
+    sys.exit(main())
