@@ -32,6 +32,15 @@ class Cases:
         return bytes(self.asked), "".join(line + "\n" for line in self.lines).encode("ascii")
 
 
+def joined(parts):
+    """Byte strings as they are lent: one slice and its ends."""
+    ends, total = [], 0
+    for part in parts:
+        total += len(part)
+        ends.append(total)
+    return b"".join(parts), ends
+
+
 def said(part):
     if part is None:
         return ". "

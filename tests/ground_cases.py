@@ -2,7 +2,7 @@
 import random
 
 import reference
-from case_writer import Cases
+from case_writer import Cases, joined
 
 READ, SIZE, WRITE, CUT, NAMES, WORD = range(1, 7)
 SEED = 20261
@@ -86,14 +86,6 @@ def cuts(cases, rng):
         if ends and not rng.randrange(4):
             ends[rng.randrange(len(ends))] = rng.choice((0, len(data) + 1, 2**32 - 1))
         ask_cut(cases, data, ends, rng.randrange(7))
-
-
-def joined(parts):
-    ends, total = [], 0
-    for part in parts:
-        total += len(part)
-        ends.append(total)
-    return b"".join(parts), ends
 
 
 def names(cases, rng):

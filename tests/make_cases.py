@@ -12,9 +12,11 @@ import os
 import sys
 
 import ground_cases
+import leaf_cases
+import query_cases
 
 ROOT = os.path.dirname(os.path.dirname(os.path.abspath(__file__)))
-PROGRAMS = {"cases_ground": ground_cases.make}
+PROGRAMS = {"cases_ground": ground_cases.make, "cases_leaf": leaf_cases.make, "cases_query": query_cases.make}
 
 
 def files(program):

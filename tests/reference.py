@@ -783,7 +783,7 @@ def live_entries(parsed_leaves):
 
 
 def word_places(live, word, star, column_set):
-    """For each docid the set of (column, position) at which a query word is.
+    """For each (docid, column) the set of positions at which a query word is.
 
     Document 01, "When a row satisfies a query".
     """
@@ -796,55 +796,45 @@ def word_places(live, word, star, column_set):
         for docid, found in live[term].items():
             for column, positions in found:
                 if column_set >> column & 1:
-                    row = places.setdefault(docid, set())
-                    row.update((column, position) for position in positions)
+                    places.setdefault((docid, column), set()).update(positions)
     return places
 
 
 def phrase_starts(live, phrase):
-    """For each docid the non-empty set of (column, first position) of a phrase.
+    """For each (docid, column) the non-empty set of first positions of a phrase.
 
     Document 01, "When a row satisfies a query": consecutive, in one column.
     """
     _, column_set, phrase_words = phrase
     places = [word_places(live, word, star, column_set) for word, star in phrase_words]
     starts = {}
-    for docid, firsts in places[0].items():
+    for place, firsts in places[0].items():
         for offset in range(1, len(places)):
-            row = places[offset].get(docid, set())
-            firsts = {(c, p) for c, p in firsts if (c, p + offset) in row}
+            positions = places[offset].get(place, set())
+            firsts = {first for first in firsts if first + offset in positions}
         if firsts:
-            starts[docid] = firsts
+            starts[place] = firsts
     return starts
-
-
-def positions_between(first, length, other_first, other_length):
-    """How many positions stand strictly between two occurrences of a column.
-
-    Document 01, "When a row satisfies a query"; none when they share one.
-    """
-    after = other_first - (first + length)
-    before = first - (other_first + other_length)
-    return max(after, before, 0)
 
 
 def near_some(starts, length, reached, reached_length, distance):
     """The starts of one operand that are near a reached start of its neighbour.
 
-    Document 01, "When a row satisfies a query".  For one start the near ones
-    of the neighbour are those from `low` to `high`, one stretch of numbers.
+    Document 01, "When a row satisfies a query"; all are in one column.
+    Strictly between an occurrence at `first` and one of the neighbour at
+    `other` stand other - (first + length) positions when the neighbour comes
+    after, first - (other + reached_length) when it comes before, and none when
+    they share one (both differences are negative then).  Neither may pass the
+    distance, so `other` is near exactly when it is from `low` to `high`.
     """
-    by_column = {}
-    for column, first in sorted(reached):
-        by_column.setdefault(column, []).append(first)
+    candidates = sorted(reached)
     near = set()
-    for column, first in starts:
-        candidates = by_column.get(column, [])
+    for first in starts:
         low = first - distance - reached_length
         high = first + length + distance
         index = bisect_left(candidates, low)
         if index < len(candidates) and candidates[index] <= high:
-            near.add((column, first))
+            near.add(first)
     return near
 
 
@@ -852,8 +842,8 @@ def chain_holds(operands, distances):
     """Whether one occurrence of each operand can be chosen, neighbours near.
 
     Document 01, "When a row satisfies a query".  An operand is its set of
-    starts with its length; `reached` keeps the starts of an operand at which
-    a choice for the operands up to it can end.
+    starts in one column with its length; `reached` keeps the starts of an
+    operand at which a choice for the operands up to it can end.
     """
     reached, reached_length = operands[0]
     for (starts, length), distance in zip(operands[1:], distances):
@@ -865,18 +855,18 @@ def chain_holds(operands, distances):
 
 
 def chain_docids(live, phrases, distances):
-    """The docids that satisfy a NEAR chain.
+    """The docids that satisfy a NEAR chain in at least one column.
 
     Document 01, "When a row satisfies a query".
     """
     starts = [phrase_starts(live, phrase) for phrase in phrases]
     lengths = [len(phrase[2]) for phrase in phrases]
     docids = set()
-    for docid in starts[0]:
-        if all(docid in rows for rows in starts):
-            operands = [(rows[docid], n) for rows, n in zip(starts, lengths)]
+    for place in starts[0]:
+        if all(place in places for places in starts):
+            operands = [(places[place], n) for places, n in zip(starts, lengths)]
             if chain_holds(operands, distances):
-                docids.add(docid)
+                docids.add(place[0])
     return docids
 
 
@@ -886,7 +876,7 @@ def matching(live, tree):
     Document 01, "When a row satisfies a query".
     """
     if tree[0] == "phrase":
-        return set(phrase_starts(live, tree))
+        return {docid for docid, _ in phrase_starts(live, tree)}
     if tree[0] == "near":
         return chain_docids(live, tree[1], tree[2])
     left, right = matching(live, tree[1]), matching(live, tree[2])

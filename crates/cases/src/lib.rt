@@ -8,6 +8,9 @@ ghost use lib.ListN.{length};
 
 const NUMBER_BYTES: usize = 8;
 
+// What stands for the least signed number.
+const LEAST: u64 = 9223372036854775808;
+
 fn wide(b: u8) -> u64
     ensures { λ r. ⌜ r < 256 ⌝ }
 {
@@ -26,6 +29,23 @@ pub fn number() -> u64 {
     let mut raw = [0u8; NUMBER_BYTES];
     io::read_full(STDIN_FILENO, &mut raw);
     quarter(raw[0], raw[1], raw[2], raw[3]) * 4294967296 + quarter(raw[4], raw[5], raw[6], raw[7])
+}
+
+// The next number, as a 32-bit one: its low half.
+pub fn small() -> u32 {
+    (number() % 4294967296) as u32
+}
+
+// The next number, as a signed one: 2^63 stands for the least, and any larger number for -1.
+pub fn signed() -> i64 {
+    let n = number();
+    if n < LEAST {
+        return n as i64;
+    }
+    if n == LEAST {
+        return -9223372036854775808;
+    }
+    -1
 }
 
 // The next field, at the front of the buffer, and its length.
@@ -71,7 +91,8 @@ pub fn say(n: u64) {
     io::write_all(STDOUT_FILENO, b" ");
 }
 
-fn end_bytes() {
+// A full stop and a space: no bytes, or no answer.
+pub fn say_nothing() {
     io::write_all(STDOUT_FILENO, b". ");
 }
 
@@ -82,7 +103,7 @@ pub fn say_bytes(s: &[u8]) {
         io::print_hex(STDOUT_FILENO, wide(s[i]), 2);
         i += 1;
     }
-    end_bytes();
+    say_nothing();
 }
 
 pub fn end_line() {

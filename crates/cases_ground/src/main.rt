@@ -20,34 +20,38 @@ const WORD: u64 = 6;
 
 const MAX_CASES: usize = 1000000;
 
-fn read_number() {
-    let mut buf = [0u8; 64];
-    let n = cases::field(&mut buf);
-    let at = cases::number() as usize;
-    match varint::read(&buf[0..n], at) {
+fn say_pair(kind: u64, size: usize) {
+    cases::say(kind);
+    cases::say(size as u64);
+}
+
+fn read_from(s: &[u8], at: usize) {
+    match varint::read(s, at) {
         Varint::Value { value, next } => {
             cases::say(value);
             cases::say(next as u64);
         }
-        Varint::Refused => cases::say_bytes(b""),
+        Varint::Refused => cases::say_nothing(),
+    }
+}
+
+fn read_number() {
+    let mut buf = [0u8; 64];
+    let n = cases::field(&mut buf);
+    let at = cases::number() as usize;
+    read_from(&buf[0..n], at);
+}
+
+fn say_written(answer: Written) {
+    match answer {
+        Written::Bytes(size) => say_pair(0, size),
+        Written::NoRoom(size) => say_pair(1, size),
+        Written::TooLarge => say_pair(2, 0),
     }
 }
 
 fn write_into(room: &mut [u8], v: u64) {
-    match varint::write(&mut room[0..], v) {
-        Written::Bytes(size) => {
-            cases::say(0);
-            cases::say(size as u64);
-        }
-        Written::NoRoom(size) => {
-            cases::say(1);
-            cases::say(size as u64);
-        }
-        Written::TooLarge => {
-            cases::say(2);
-            cases::say(0);
-        }
-    }
+    say_written(varint::write(&mut room[0..], v));
     cases::say_bytes(room);
 }
 
@@ -66,17 +70,35 @@ fn say_flag(yes: bool) {
     }
 }
 
+fn part_of(s: &[u8], ends: &[u32], i: usize) {
+    if offsets::is_cut(s, ends) {
+        cases::say(1);
+        cases::say_bytes(offsets::part(s, ends, i));
+    } else {
+        cases::say(0);
+    }
+}
+
 fn cut_parts() {
     let mut buf = [0u8; 256];
     let n = cases::field(&mut buf);
     let mut ends = [0u32; 32];
     let m = cases::ends(&mut ends);
     let i = cases::number() as usize;
-    if offsets::is_cut(&buf[0..n], &ends[0..m]) {
-        cases::say(1);
-        cases::say_bytes(offsets::part(&buf[0..n], &ends[0..m], i));
-    } else {
-        cases::say(0);
+    part_of(&buf[0..n], &ends[0..m], i);
+}
+
+fn say_column(s: &[u8], ends: &[u32], name: &[u8]) {
+    match offsets::column_of(s, ends, name) {
+        Column::At(i) => cases::say(i as u64),
+        Column::Unknown => cases::say_nothing(),
+    }
+}
+
+fn names_of(s: &[u8], ends: &[u32], name: &[u8]) {
+    say_flag(offsets::are_names(s, ends));
+    if offsets::is_cut(s, ends) {
+        say_column(s, ends, name);
     }
 }
 
@@ -87,13 +109,7 @@ fn names_and_column() {
     let m = cases::ends(&mut ends);
     let mut name = [0u8; 64];
     let k = cases::field(&mut name);
-    say_flag(offsets::are_names(&buf[0..n], &ends[0..m]));
-    if offsets::is_cut(&buf[0..n], &ends[0..m]) {
-        match offsets::column_of(&buf[0..n], &ends[0..m], &name[0..k]) {
-            Column::At(i) => cases::say(i as u64),
-            Column::Unknown => cases::say_bytes(b""),
-        }
-    }
+    names_of(&buf[0..n], &ends[0..m], &name[0..k]);
 }
 
 fn say_folded(s: &mut [u8]) {
@@ -105,23 +121,25 @@ fn say_folded(s: &mut [u8]) {
     cases::say_bytes(s);
 }
 
+fn say_place(kind: u64, start: usize, end: usize) {
+    cases::say(kind);
+    cases::say(start as u64);
+    cases::say(end as u64);
+}
+
+fn say_word(s: &[u8], at: usize) {
+    match tokenizer::next_word(s, at) {
+        Word::Found { start, end } => say_place(0, start, end),
+        Word::Overlong { start, end } => say_place(1, start, end),
+        Word::Nothing => cases::say_nothing(),
+    }
+}
+
 fn word_from() {
     let mut buf = [0u8; 1024];
     let n = cases::field(&mut buf);
     let at = cases::number() as usize;
-    match tokenizer::next_word(&buf[0..n], at) {
-        Word::Found { start, end } => {
-            cases::say(0);
-            cases::say(start as u64);
-            cases::say(end as u64);
-        }
-        Word::Overlong { start, end } => {
-            cases::say(1);
-            cases::say(start as u64);
-            cases::say(end as u64);
-        }
-        Word::Nothing => cases::say_bytes(b""),
-    }
+    say_word(&buf[0..n], at);
     say_folded(&mut buf[0..n]);
 }
 

@@ -32,8 +32,8 @@ loop-less c = search needs
 loop-again : tie.Need-loop-again Inv-loop μ-loop
 loop-again c = search needs
 
-end-bytes-requires : tie.Need-end-bytes-requires Inv-loop μ-loop
-end-bytes-requires c κs = search needs
+say-nothing-requires : tie.Need-say-nothing-requires Inv-loop μ-loop
+say-nothing-requires c κs = search needs
 
 returns : tie.Need-returns Inv-loop μ-loop
 returns c = search needs
@@ -51,5 +51,5 @@ say-bytes-spec =
     add-i
     loop-less
     loop-again
-    end-bytes-requires
+    say-nothing-requires
     returns)

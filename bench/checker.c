@@ -1,0 +1,101 @@
+/* A plain C checker of the rules of a leaf, for comparison: the same rules, one pass, no proof. */
+#include "checker.h"
+
+#include <string.h>
+
+enum { MAX_WORD = 64, MAX_NUMBER_BYTES = 9 };
+
+static const uint64_t POSITION_LIMIT = UINT64_C(1) << 31;
+static const uint64_t DOCID_LIMIT = UINT64_C(1) << 63;
+
+/* Reads the number at *at; 0 where there is none in its shortest form. */
+static int number(const uint8_t *s, size_t n, size_t *at, uint64_t *value)
+{
+    uint64_t v = 0;
+    size_t i = *at;
+    for (int k = 0; k < MAX_NUMBER_BYTES; k++, i++) {
+        if (i >= n)
+            return 0;
+        v |= (uint64_t)(s[i] & 127) << (7 * k);
+        if (s[i] < 128) {
+            if (s[i] == 0 && k > 0)
+                return 0;
+            *value = v;
+            *at = i + 1;
+            return 1;
+        }
+    }
+    return 0;
+}
+
+static int columns_of_entry(const uint8_t *s, size_t n, size_t *at, uint64_t columns)
+{
+    uint64_t column = 0, position = 0, v;
+    int some = 0;
+    for (;;) {
+        if (!number(s, n, at, &v))
+            return 0;
+        if (v >= 2) {
+            if (some && v < 3)
+                return 0;
+            position += v - 2;
+            if (position >= POSITION_LIMIT)
+                return 0;
+            some = 1;
+            continue;
+        }
+        if (!some && column > 0)
+            return 0;
+        if (v == 0)
+            return 1;
+        if (!number(s, n, at, &v) || v <= column || v >= columns)
+            return 0;
+        column = v;
+        position = 0;
+        some = 0;
+    }
+}
+
+static int doclist(const uint8_t *s, size_t n, uint64_t columns)
+{
+    size_t at = 0;
+    uint64_t docid = 0, v;
+    if (n == 0)
+        return 0;
+    while (at < n) {
+        int first = at == 0;
+        if (!number(s, n, &at, &v) || (!first && v == 0) || v >= DOCID_LIMIT - docid)
+            return 0;
+        docid += v;
+        if (!columns_of_entry(s, n, &at, columns))
+            return 0;
+    }
+    return 1;
+}
+
+int plain_check(const uint8_t *s, size_t n, uint32_t columns)
+{
+    uint8_t word[MAX_WORD];
+    size_t at = 0, len = 0;
+    uint64_t prefix, size, bytes, height;
+    int words = 0;
+    if (!number(s, n, &at, &height) || height != 0)
+        return 0;
+    while (at < n) {
+        prefix = 0;
+        if (words > 0 && !number(s, n, &at, &prefix))
+            return 0;
+        if (!number(s, n, &at, &size) || size == 0 || size > MAX_WORD || prefix > MAX_WORD - size || size > n - at)
+            return 0;
+        if (prefix < len ? word[prefix] >= s[at] : prefix != len)
+            return 0;
+        memcpy(word + prefix, s + at, size);
+        len = prefix + size;
+        at += size;
+        if (!number(s, n, &at, &bytes) || bytes > n - at || !doclist(s + at, bytes, columns))
+            return 0;
+        at += bytes;
+        words++;
+    }
+    return words > 0;
+}

@@ -1,0 +1,10 @@
+#ifndef CHECKER_H
+#define CHECKER_H
+
+#include <stddef.h>
+#include <stdint.h>
+
+/* Whether the bytes are a leaf of a table with so many columns. */
+int plain_check(const uint8_t *s, size_t n, uint32_t columns);
+
+#endif

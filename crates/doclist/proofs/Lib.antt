@@ -1,0 +1,11 @@
+pub mod General
+pub mod Steps
+pub mod Numbers
+pub mod Walking
+pub mod Content
+pub mod Law
+pub mod Unique
+pub mod Entries
+pub mod Places
+pub mod Finding
+pub mod Examples

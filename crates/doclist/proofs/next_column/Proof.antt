@@ -1,0 +1,17 @@
+-- `next_column` meets its contract: each test of the code is the test of `nextColumnOf`.
+use borrow.Author.Tests.{lt-ltb, le-ltb, le-leb, lt-leb}
+use Prim.Native.Nat.{_-_}
+use Rattle.doclist.proofs.next_column.Statement.{statement}
+use Rattle.doclist.proofs.next_column.Tie as tie
+
+returns : tie.Need-returns
+returns c = simp (le-leb _ _ (c .if1 .taken))
+
+returns-2 : tie.Need-returns-2
+returns-2 c = simp (lt-leb _ _ (c .before .if1 .left), lt-ltb _ _ (c .if2 .taken))
+
+returns-3 : tie.Need-returns-3
+returns-3 c = simp (lt-leb _ _ (c .before .if1 .left), le-ltb _ _ (c .if2 .left))
+
+pub next-column-spec : {M : Type 1} → statement M
+next-column-spec = tie.close (tie.spec returns returns-2 returns-3)

@@ -1,0 +1,3 @@
+pub mod Doclist
+pub mod Checking
+pub mod Marked

@@ -1,0 +1,272 @@
+// Posting lists of document 01: doclists. A list is a row of varints:
+//
+//     docid (later its difference)   for each column: [1, column]   position + 2, difference + 2, ..   0
+//
+// Column 0 is not announced. An entry with no column, `docid 0`, is a deletion.
+use varint::Varint;
+ghost use mathlib.Core.Path.{_≡_};
+ghost use mathlib.Core.Logic.{_↔_};
+ghost use mathlib.Core.List.{List};
+ghost use Prim.Native.Nat.{_^_, _<_};
+ghost use Rattle.doclist.specs.Doclist.{Entry, WellFormed, encodeList, entryPlace, docidLimit, positionLimit};
+ghost use Rattle.doclist.specs.Checking.{Sane, positionOf, nextDocidOf, nextColumnOf, stepOf, endedOf, checkOf, notFoundOf, findOf};
+
+// The number that closes an entry.
+const POS_END: u64 = 0;
+
+// The number that announces a column.
+const POS_COLUMN: u64 = 1;
+
+// What is added to a position, so that it is told from these two.
+const POS_BASE: u64 = 2;
+
+// A docid is below 2^63.
+const DOCID_LIMIT: u64 = 0x8000_0000_0000_0000;
+
+// A position is below 2^31.
+const POSITION_LIMIT: u64 = 0x8000_0000;
+
+// A table has 1 to 16 columns.
+const MAX_COLUMNS: u64 = 16;
+
+// Which number of a list comes next.
+pub enum State {
+    // The first docid.
+    Start,
+    // A docid's difference, or the end of the list: the entry of `docid` is closed.
+    Between {
+        docid: u64,
+    },
+    // In `column`: a position that counts from `base` and is at least `low`; or 1 or 0, which end the column.
+    Open {
+        docid: u64,
+        column: u64,
+        base: u64,
+        low: u64,
+    },
+    // A column above `column`, behind the number 1.
+    Name {
+        docid: u64,
+        column: u64,
+    },
+    // The first position of `column`, which was just announced.
+    Named {
+        docid: u64,
+        column: u64,
+    },
+    // A rule is broken.
+    Broken,
+}
+
+// Whether a byte string is a posting list.
+pub enum ListCheck {
+    Accepted,
+    Refused,
+}
+
+// Where the entry of a docid stands in a list.
+pub enum EntryAt {
+    // From `start`, its docid number, up to `end`, behind its closing 0.
+    At { start: usize, end: usize },
+    // No entry has the docid.
+    Absent,
+    // Up to the entry's place this is no list: a number can't be read, a rule is broken, or the list ends inside an entry.
+    Refused,
+}
+
+// The state after a position's number.
+fn position(docid: u64, column: u64, base: u64, low: u64, v: u64) -> State
+    requires { ⌜ (base < positionLimit) × (v < 2 ^ 63) ⌝ }
+    ensures { λ r. ⌜ r ≡ positionOf docid column base low v ⌝ }
+{
+    if v < POS_BASE {
+        return State::Broken;
+    }
+    let p = base + (v - POS_BASE);
+    if p < low {
+        return State::Broken;
+    }
+    if p < POSITION_LIMIT {
+        State::Open {
+            docid,
+            column,
+            base: p,
+            low: p + 1,
+        }
+    } else {
+        State::Broken
+    }
+}
+
+// The state after a docid's difference.
+fn next_docid(docid: u64, v: u64) -> State
+    requires { ⌜ docid < docidLimit ⌝ }
+    ensures { λ r. ⌜ r ≡ nextDocidOf docid v ⌝ }
+{
+    if v == 0 {
+        return State::Broken;
+    }
+    if v < DOCID_LIMIT - docid {
+        State::Open {
+            docid: docid + v,
+            column: 0,
+            base: 0,
+            low: 0,
+        }
+    } else {
+        State::Broken
+    }
+}
+
+// The state after the number of a column.
+fn next_column(docid: u64, column: u64, v: u64, columns: u64) -> State
+    ensures { λ r. ⌜ r ≡ nextColumnOf columns docid column v ⌝ }
+{
+    if v <= column {
+        return State::Broken;
+    }
+    if v < columns {
+        State::Named { docid, column: v }
+    } else {
+        State::Broken
+    }
+}
+
+// The state after one more number.
+fn step(q: State, v: u64, columns: u64) -> State
+    requires { ⌜ Sane q × (v < 2 ^ 63) ⌝ }
+    ensures { λ r. ⌜ r ≡ stepOf columns q v ⌝ }
+{
+    match q {
+        State::Start => State::Open {
+            docid: v,
+            column: 0,
+            base: 0,
+            low: 0,
+        },
+        State::Between { docid } => next_docid(docid, v),
+        State::Open {
+            docid,
+            column,
+            base,
+            low,
+        } => {
+            if v == POS_END {
+                return State::Between { docid };
+            }
+            if v == POS_COLUMN {
+                return State::Name { docid, column };
+            }
+            position(docid, column, base, low, v)
+        }
+        State::Name { docid, column } => next_column(docid, column, v, columns),
+        State::Named { docid, column } => position(docid, column, 0, 0, v),
+        State::Broken => State::Broken,
+    }
+}
+
+// The answer where the list ends in this state.
+fn ended(q: State) -> ListCheck
+    ensures { λ r. ⌜ r ≡ endedOf q ⌝ }
+{
+    match q {
+        State::Between { docid: _ } => ListCheck::Accepted,
+        State::Start => ListCheck::Refused,
+        State::Open {
+            docid: _,
+            column: _,
+            base: _,
+            low: _,
+        } => ListCheck::Refused,
+        State::Name {
+            docid: _,
+            column: _,
+        } => ListCheck::Refused,
+        State::Named {
+            docid: _,
+            column: _,
+        } => ListCheck::Refused,
+        State::Broken => ListCheck::Refused,
+    }
+}
+
+// Whether `s` is a posting list of a table of `columns` columns.
+pub fn check(s: &[u8], columns: u64) -> ListCheck
+    ensures reader { λ r. ⌜ r ≡ checkOf columns (now (s .entry)) ⌝ }
+    ensures content { λ r. ⌜ ((r ≡ ListCheck.Accepted) ↔ ((es : List Entry) × WellFormed columns es × (now (s .entry) ≡ encodeList es))) ⌝ }
+{
+    if columns == 0 {
+        return ListCheck::Refused;
+    }
+    if MAX_COLUMNS < columns {
+        return ListCheck::Refused;
+    }
+    let mut q = State::Start;
+    let mut i = 0;
+    while i < s.len() {
+        let Varint::Value { value, next } = varint::read(s, i) else {
+            return ListCheck::Refused;
+        };
+        q = step(q, value, columns);
+        i = next;
+    }
+    ended(q)
+}
+
+// The answer where the list ends in this state, and the docid was not met.
+fn not_found(q: State) -> EntryAt
+    ensures { λ r. ⌜ r ≡ notFoundOf q ⌝ }
+{
+    match q {
+        State::Between { docid: _ } => EntryAt::Absent,
+        State::Start => EntryAt::Refused,
+        State::Open {
+            docid: _,
+            column: _,
+            base: _,
+            low: _,
+        } => EntryAt::Refused,
+        State::Name {
+            docid: _,
+            column: _,
+        } => EntryAt::Refused,
+        State::Named {
+            docid: _,
+            column: _,
+        } => EntryAt::Refused,
+        State::Broken => EntryAt::Refused,
+    }
+}
+
+// Where the entry of `docid` stands in the posting list `s`. It is read no further than it takes to know.
+pub fn find(s: &[u8], columns: u64, docid: u64) -> EntryAt
+    ensures reader { λ r. ⌜ r ≡ findOf columns (now (s .entry)) docid ⌝ }
+    ensures content { λ r. ⌜ ((es : List Entry) → WellFormed columns es → now (s .entry) ≡ encodeList es → r ≡ entryPlace es docid) ⌝ }
+{
+    if columns == 0 {
+        return EntryAt::Refused;
+    }
+    if MAX_COLUMNS < columns {
+        return EntryAt::Refused;
+    }
+    let mut q = State::Start;
+    let mut start = 0;
+    let mut i = 0;
+    while i < s.len() {
+        let Varint::Value { value, next } = varint::read(s, i) else {
+            return EntryAt::Refused;
+        };
+        q = step(q, value, columns);
+        i = next;
+        if let State::Between { docid: closed } = q {
+            if closed == docid {
+                return EntryAt::At { start, end: i };
+            }
+            if docid < closed {
+                return EntryAt::Absent;
+            }
+            start = i;
+        }
+    }
+    not_found(q)
+}

@@ -1,0 +1,38 @@
+-- `fts4box::fts4_lookup` meets its contract: the answer is that of `lookup::find_list`.
+use mathlib.Core.Path.{refl}
+use Prim.Native.Nat.{_-_}
+use borrow.Author.Needs.{needs}
+use Rattle.fts4box.proofs.fts4_lookup.Statement.{statement}
+use Rattle.fts4box.proofs.fts4_lookup.Tie as tie
+
+find-list-requires : tie.Need-find-list-requires
+find-list-requires c κs = search needs
+
+word-beside-requires : tie.Need-word-beside-requires
+word-beside-requires c κs = search needs
+
+word-start-requires : tie.Need-word-start-requires
+word-start-requires c κs = search needs
+
+word-number-requires : tie.Need-word-number-requires
+word-number-requires c κs = search needs
+
+returns : tie.Need-returns
+returns c =
+    record {
+      answer = c .before .before .before .find-list .result;
+      right = c .before .before .before .find-list .ensures (c .before .before .before .find-list .result) .0 refl;
+      number-is = c .word-number .ensures;
+      second-is = c .before .before .word-beside .ensures;
+      start-is = c .before .word-start .ensures;
+    }
+
+pub fts4-lookup-spec : {M : Type 1} → statement M
+fts4-lookup-spec =
+    tie.close
+    (tie.spec
+    find-list-requires
+    word-beside-requires
+    word-start-requires
+    word-number-requires
+    returns)

@@ -1,0 +1,64 @@
+-- The calls for C and Rust: each returns document 01's number of its answer and stores the number beside it, and, for a
+-- lookup, where the part stands. What the answer claims is said by the crates below.
+use Prim.Native.Nat.{ℕ}
+use lib.IntN.{ℤ}
+use mathlib.Core.Path.{_≡_}
+use mathlib.Core.Logic.{_↔_}
+use mathlib.Core.List.{List}
+use Rattle.leaf.specs.Leaf.{Term, WellFormed, encodeLeaf}
+use Rattle.leaf.specs.Answers.{CheckShape, checkNumber}
+use Rattle.leaf.specs.declared.LeafCheck.{LeafCheck}
+use Rattle.leaf.specs.declared.LeafCheck.the-variants as check
+use Rattle.lookup.specs.Words.{WordIs, wordNumber, wordBeside}
+use Rattle.lookup.specs.Entries.{DecidingIs, entryNumber, entryBeside}
+use Rattle.lookup.specs.declared.WordAnswer.{WordAnswer}
+use Rattle.lookup.specs.declared.WordAnswer.the-variants as word
+use Rattle.lookup.specs.declared.EntryAnswer.{EntryAnswer}
+use Rattle.lookup.specs.declared.EntryAnswer.the-variants as entry
+
+-- checking one leaf: the number beside every answer is 0
+pub record Checked (columns : ℕ) (leaf : List ℕ) (number second : ℕ) : Type 0 where
+  pub answer : LeafCheck
+  pub shape : (answer ≡ check.Shape) ↔ (CheckShape columns leaf → ⊥)
+  pub accepted : (answer ≡ check.Accepted) ↔ (CheckShape columns leaf × ((ts : List Term) × WellFormed columns ts × (leaf ≡ encodeLeaf ts)))
+  pub number-is : number ≡ checkNumber answer
+  pub second-is : second ≡ 0
+
+-- where the part of a lookup begins; 0 where there is none
+abbrev pub wordStart : WordAnswer → ℕ
+wordStart (word.Found start size) = start
+wordStart word.Nothing = 0
+wordStart word.Shape = 0
+wordStart word.Broken = 0
+
+pub record LookedUp (columns : ℕ) (leaf wanted : List ℕ) (number second start : ℕ) : Type 0 where
+  pub answer : WordAnswer
+  pub right : WordIs columns leaf wanted answer
+  pub number-is : number ≡ wordNumber answer
+  pub second-is : second ≡ wordBeside answer
+  pub start-is : start ≡ wordStart answer
+
+abbrev pub entryStart : EntryAnswer → ℕ
+entryStart (entry.Newer start size) = start
+entryStart (entry.Older start size) = start
+entryStart entry.Nothing = 0
+entryStart entry.Shape = 0
+entryStart entry.NewerBroken = 0
+entryStart entry.OlderBroken = 0
+
+-- which leaf holds the part: 0 the newer, 1 the older; 0 where there is no part
+abbrev pub entryLeaf : EntryAnswer → ℕ
+entryLeaf (entry.Newer start size) = 0
+entryLeaf (entry.Older start size) = 1
+entryLeaf entry.Nothing = 0
+entryLeaf entry.Shape = 0
+entryLeaf entry.NewerBroken = 0
+entryLeaf entry.OlderBroken = 0
+
+pub record Decided (columns : ℕ) (newer older wanted : List ℕ) (docid : ℤ) (number second leaf start : ℕ) : Type 0 where
+  pub answer : EntryAnswer
+  pub right : DecidingIs columns newer older wanted docid answer
+  pub number-is : number ≡ entryNumber answer
+  pub second-is : second ≡ entryBeside answer
+  pub leaf-is : leaf ≡ entryLeaf answer
+  pub start-is : start ≡ entryStart answer

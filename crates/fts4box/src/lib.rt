@@ -1,0 +1,108 @@
+// The counting box for C and Rust: see include/fts4box.h. A slice is passed as a pointer and a length. Each call returns the
+// number of its answer and stores the number beside it.
+use leaf::LeafCheck;
+use lookup::EntryAnswer;
+use lookup::WordAnswer;
+ghost use mathlib.Core.Path.{_≡_};
+ghost use Rattle.leaf.specs.Answers.{checkNumber};
+ghost use Rattle.fts4box.specs.Calls.{Checked, LookedUp, Decided, wordStart, entryStart, entryLeaf};
+
+const ACCEPTED: u32 = 0;
+
+const SHAPE: u32 = 1;
+
+const LEAF: u32 = 3;
+
+fn check_number(answer: LeafCheck) -> u32
+    ensures { λ r. ⌜ r ≡ checkNumber answer ⌝ }
+{
+    match answer {
+        LeafCheck::Accepted => ACCEPTED,
+        LeafCheck::Shape => SHAPE,
+        LeafCheck::Broken => LEAF,
+    }
+}
+
+// Checks one leaf.
+#[no_mangle]
+pub extern "C" fn fts4_check(leaf: &[u8], columns: u32, second: &mut u64) -> u32
+    ensures { λ r. ⌜ Checked columns (now (leaf .entry)) r (now (second .exit)) ⌝ }
+{
+    *second = 0;
+    check_number(leaf::check(leaf, columns))
+}
+
+fn word_start(answer: WordAnswer) -> u64
+    ensures { λ r. ⌜ r ≡ wordStart answer ⌝ }
+{
+    match answer {
+        WordAnswer::Found { start, size: _ } => start as u64,
+        WordAnswer::Nothing => 0,
+        WordAnswer::Shape => 0,
+        WordAnswer::Broken => 0,
+    }
+}
+
+// Looks a word up in one leaf.
+#[no_mangle]
+pub extern "C" fn fts4_lookup(
+    leaf: &[u8],
+    columns: u32,
+    word: &[u8],
+    second: &mut u64,
+    start: &mut u64,
+) -> u32
+    ensures { λ r. ⌜ LookedUp columns (now (leaf .entry)) (now (word .entry)) r (now (second .exit)) (now (start .exit)) ⌝ }
+{
+    let answer = lookup::find_list(leaf, columns, word);
+    *second = lookup::word_beside(answer);
+    *start = word_start(answer);
+    lookup::word_number(answer)
+}
+
+fn entry_start(answer: EntryAnswer) -> u64
+    ensures { λ r. ⌜ r ≡ entryStart answer ⌝ }
+{
+    match answer {
+        EntryAnswer::Newer { start, size: _ } => start as u64,
+        EntryAnswer::Older { start, size: _ } => start as u64,
+        EntryAnswer::Nothing => 0,
+        EntryAnswer::Shape => 0,
+        EntryAnswer::NewerBroken => 0,
+        EntryAnswer::OlderBroken => 0,
+    }
+}
+
+fn entry_leaf(answer: EntryAnswer) -> u32
+    ensures { λ r. ⌜ r ≡ entryLeaf answer ⌝ }
+{
+    match answer {
+        EntryAnswer::Newer { start: _, size: _ } => 0,
+        EntryAnswer::Older { start: _, size: _ } => 1,
+        EntryAnswer::Nothing => 0,
+        EntryAnswer::Shape => 0,
+        EntryAnswer::NewerBroken => 0,
+        EntryAnswer::OlderBroken => 0,
+    }
+}
+
+// Looks for the entry that decides for a word and a docid in two leaves.
+#[no_mangle]
+pub extern "C" fn fts4_deciding(
+    newer: &[u8],
+    older: &[u8],
+    columns: u32,
+    word: &[u8],
+    docid: i64,
+    second: &mut u64,
+    leaf: &mut u32,
+    start: &mut u64,
+) -> u32
+    ensures { λ r. ⌜ Decided columns (now (newer .entry)) (now (older .entry)) (now (word .entry)) docid r (now (second .exit)) (now (leaf .exit)) (now (start .exit)) ⌝ }
+{
+    let answer = lookup::find_entry(newer, older, columns, word, docid);
+    *second = lookup::entry_beside(answer);
+    *leaf = entry_leaf(answer);
+    *start = entry_start(answer);
+    lookup::entry_number(answer)
+}

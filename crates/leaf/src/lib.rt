@@ -1,0 +1,214 @@
+// Leaves of document 01: segment b-tree leaf nodes of height 0. All numbers are varints:
+//
+//     0 (height)
+//     first word:               length   bytes    list length   posting list
+//     each later word: prefix   length   suffix   list length   posting list
+//
+// The prefix is the number of bytes shared with the word before, the longest such; the last list ends at the leaf's end.
+use doclist::ListCheck;
+use varint::Varint;
+ghost use mathlib.Core.Path.{_≡_};
+ghost use mathlib.Core.Logic.{_↔_};
+ghost use mathlib.Core.List.{List};
+ghost use Prim.Native.Nat.{_+_, _≤_};
+ghost use lib.ListN.{length, take};
+ghost use lib.Seq.{paste};
+ghost use Rattle.leaf.specs.Leaf.{Term, WellFormed, encodeLeaf, SoundFront};
+ghost use Rattle.leaf.specs.Reading.{listAt, suffixAt, headAt, joinsOf, walkOf};
+ghost use Rattle.leaf.specs.Answers.{CheckShape, checkLeaf};
+
+// All leaves together have at most 65,536 bytes.
+pub const MAX_LEAVES: usize = 65536;
+
+// A word has 1 to 64 bytes.
+pub const MAX_WORD: usize = 64;
+
+// The first word stands behind the height.
+pub const FIRST_WORD: usize = 1;
+
+// A table has 1 to 16 columns.
+pub const MAX_COLUMNS: u32 = 16;
+
+// What stands at a word's place.
+pub enum Head {
+    // The word shares `prefix` bytes with the one before; its suffix is `size` bytes from `from`; its posting list
+    // goes from `list` up to `next`, where the next word begins.
+    Found {
+        prefix: usize,
+        from: usize,
+        size: usize,
+        list: usize,
+        next: usize,
+    },
+    Refused,
+}
+
+// The sound front of a leaf: how many words are sound, and where they end.
+pub struct Sound {
+    pub words: usize,
+    pub end: usize,
+}
+
+// What checking one leaf answers.
+pub enum LeafCheck {
+    Accepted,
+    Shape,
+    Broken,
+}
+
+// The list's length, at `to`, and the list.
+fn list_at(s: &[u8], prefix: usize, from: usize, size: usize, to: usize) -> Head
+    ensures { λ r. ⌜ r ≡ listAt (now (s .entry)) prefix from size to ⌝ }
+{
+    let Varint::Value {
+        value: bytes,
+        next: list,
+    } = varint::read(s, to)
+    else {
+        return Head::Refused;
+    };
+    let left = (s.len() - list) as u64;
+    if left < bytes {
+        return Head::Refused;
+    }
+    Head::Found {
+        prefix,
+        from,
+        size,
+        list,
+        next: list + (bytes as usize),
+    }
+}
+
+// The suffix's length, at `at`, and the suffix.
+fn suffix_at(s: &[u8], prefix: usize, at: usize) -> Head
+    ensures { λ r. ⌜ r ≡ suffixAt (now (s .entry)) prefix at ⌝ }
+{
+    let Varint::Value { value, next: from } = varint::read(s, at) else {
+        return Head::Refused;
+    };
+    if value == 0 {
+        return Head::Refused;
+    }
+    if (MAX_WORD as u64) < value {
+        return Head::Refused;
+    }
+    let size = value as usize;
+    if MAX_WORD - size < prefix {
+        return Head::Refused;
+    }
+    if s.len() - from < size {
+        return Head::Refused;
+    }
+    list_at(s, prefix, from, size, from + size)
+}
+
+// The word that begins at a place.
+pub fn head_at(s: &[u8], at: usize) -> Head
+    ensures { λ r. ⌜ r ≡ headAt (now (s .entry)) at ⌝ }
+{
+    if at == FIRST_WORD {
+        return suffix_at(s, 0, at);
+    }
+    let Varint::Value { value, next } = varint::read(s, at) else {
+        return Head::Refused;
+    };
+    if (MAX_WORD as u64) < value {
+        return Head::Refused;
+    }
+    suffix_at(s, value as usize, next)
+}
+
+// Whether a word that shares exactly `p` bytes with the first `len` of `word`, and goes on with `b`, comes after it.
+fn joins(word: &[u8; 64], len: usize, p: usize, b: u8) -> bool
+    requires { ⌜ (len ≤ 64) × (length (now word) ≡ 64) ⌝ }
+    ensures { λ r. ⌜ r ≡ joinsOf (take len (now (word .entry))) p b ⌝ }
+{
+    if p < len {
+        return word[p] < b;
+    }
+    p == len
+}
+
+// Puts a suffix behind the first `p` bytes of a word.
+fn put(word: &mut [u8; 64], p: usize, suffix: &[u8])
+    requires { ⌜ (p + length (now suffix) ≤ 64) × (length (now word) ≡ 64) ⌝ }
+    ensures { λ _. ⌜ now (word .exit) ≡ paste (now (word .entry)) p (now (suffix .entry)) (length (now (suffix .entry))) ⌝ }
+{
+    let mut j = 0;
+    while j < suffix.len() {
+        word[p + j] = suffix[j];
+        j += 1;
+    }
+}
+
+// The sound front of a leaf: its words up to the first that breaks a rule.
+pub fn walk(s: &[u8], columns: u64) -> Sound
+    ensures reader { λ r. ⌜ r ≡ walkOf columns (now (s .entry)) ⌝ }
+    ensures content { λ r. ⌜ SoundFront columns (now (s .entry)) (r .words) (r .end) ⌝ }
+{
+    let Varint::Value {
+        value: height,
+        next: first,
+    } = varint::read(s, 0)
+    else {
+        return Sound { words: 0, end: 0 };
+    };
+    if height != 0 {
+        return Sound { words: 0, end: 0 };
+    }
+    let mut word = [0u8; 64];
+    let mut len: usize = 0;
+    let mut words: usize = 0;
+    let mut i = first;
+    while i < s.len() {
+        let Head::Found {
+            prefix,
+            from,
+            size,
+            list,
+            next,
+        } = head_at(s, i)
+        else {
+            return Sound { words, end: i };
+        };
+        if !joins(&word, len, prefix, s[from]) {
+            return Sound { words, end: i };
+        }
+        let ListCheck::Accepted = doclist::check(&s[list..next], columns) else {
+            return Sound { words, end: i };
+        };
+        let to = from + size;
+        put(&mut word, prefix, &s[from..to]);
+        len = prefix + size;
+        words += 1;
+        i = next;
+    }
+    Sound { words, end: i }
+}
+
+// Checks one leaf.
+pub fn check(leaf: &[u8], columns: u32) -> LeafCheck
+    ensures reader { λ r. ⌜ r ≡ checkLeaf columns (now (leaf .entry)) ⌝ }
+    ensures shape { λ r. ⌜ ((r ≡ LeafCheck.Shape) ↔ (CheckShape columns (now (leaf .entry)) → ⊥)) ⌝ }
+    ensures content { λ r. ⌜ ((r ≡ LeafCheck.Accepted) ↔ (CheckShape columns (now (leaf .entry)) × ((ts : List Term) × WellFormed columns ts × (now (leaf .entry) ≡ encodeLeaf ts)))) ⌝ }
+    ensures broken { λ r. ⌜ ((r ≡ LeafCheck.Broken) ↔ (CheckShape columns (now (leaf .entry)) × ((ts : List Term) → WellFormed columns ts → now (leaf .entry) ≡ encodeLeaf ts → ⊥))) ⌝ }
+{
+    if columns == 0 {
+        return LeafCheck::Shape;
+    }
+    if MAX_COLUMNS < columns {
+        return LeafCheck::Shape;
+    }
+    if MAX_LEAVES < leaf.len() {
+        return LeafCheck::Shape;
+    }
+    let sound = walk(leaf, columns as u64);
+    if sound.words == 0 {
+        return LeafCheck::Broken;
+    }
+    if sound.end == leaf.len() {
+        return LeafCheck::Accepted;
+    }
+    LeafCheck::Broken
+}

@@ -1,0 +1,268 @@
+-- The entry of a docid in one leaf is one, and inside it; of the answers of a lookup in two leaves exactly one is right
+-- (`deciding-exact`).
+use Prim.Native.Nat.{ℕ, suc, _+_, _≤_, _<_}
+use native.Mathlib.Omega.{arith}
+use mathlib.Core.Path.{_≡_, refl, sym, ap, ap₂, _∙_, subst}
+use mathlib.Core.Logic.{_↔_}
+use mathlib.Core.List.{List, [], _∷_}
+use mathlib.Core.Bool.{true, false}
+use lib.IntN.{ℤ, pos, negsuc, natAbs, pos-ne-negsuc}
+use lib.Signed.{leZ, nonNeg}
+use lib.Dec.{T}
+use lib.ListN.{length}
+use borrow.Author.Tests.{le-leb}
+use mir.Syntax.{w64}
+use mir.Val.{Fits, SFits}
+use denote.Enum.Declared.{tagOf}
+use Rattle.common.proofs.Cases.{false-not-true}
+use Rattle.common.specs.Bytes.{part}
+use Rattle.doclist.specs.Doclist.{Entry, WellFormed, encodeList, entryPlace}
+use Rattle.doclist.proofs.EntryAt as entry-at
+use Rattle.doclist.specs.declared.EntryAt.{EntryAt}
+use Rattle.doclist.specs.declared.EntryAt.the-variants.{At, Absent, Refused}
+use Rattle.doclist.proofs.Places.{place-not-refused, placed, placed-within}
+use Rattle.leaf.specs.Leaf as leaf
+use Rattle.leaf.specs.Leaf.{Term, encodeLeaf, ListIs, NoTerm}
+use Rattle.leaf.specs.Answers.{CheckShape}
+use Rattle.leaf.specs.declared.LeafCheck.{LeafCheck}
+use Rattle.leaf.specs.declared.LeafCheck.the-variants.{Accepted}
+use Rattle.leaf.proofs.LeafCheck as leaf-check
+use Rattle.leaf.proofs.Once.{term-once, list-once, list-not-none, list-good, list-part}
+use Rattle.lookup.specs.Words.{LeafIs, NoLeaf, Tells}
+use Rattle.lookup.specs.declared.WordAnswer.the-variants as word
+use Rattle.lookup.specs.declared.WordAnswer.{WordAnswer}
+use Rattle.lookup.specs.Entries.{EntryIs, NoEntry, EntryTold, DecidingShape, LeavesAre, Decides, DecidingIs, entryPart}
+use Rattle.lookup.specs.declared.EntryAnswer.{EntryAnswer}
+use Rattle.lookup.specs.declared.EntryAnswer.the-variants.{Newer, Older, Nothing, Shape, NewerBroken, OlderBroken}
+use Rattle.lookup.proofs.WordAnswer as word-answer
+use Rattle.lookup.proofs.EntryAnswer as entry-answer
+use Rattle.lookup.proofs.WordLaws.{same-terms}
+use types.Run.{OneOf, miss}
+
+-- ---- the entry of a docid in one leaf
+
+absent-at {ℓ} : {X : Type ℓ} {e : EntryAt} {first last : ℕ} → e ≡ Absent → e ≡ At first last → X
+absent-at p q = let z : _≡_ {A = ℕ} 0 1 = cc in absurd (omega arith)
+
+at-first : {e : EntryAt} {a b c d : ℕ} → e ≡ At a b → e ≡ At c d → a ≡ c
+at-first p q = cc
+
+at-last : {e : EntryAt} {a b c d : ℕ} → e ≡ At a b → e ≡ At c d → b ≡ d
+at-last p q = cc
+
+pub entry-inside : {ts : List Term} {word : List ℕ} {docid start size : ℕ} → EntryIs ts word docid start size → start + size ≤ length (encodeLeaf ts)
+entry-inside {docid = docid} e =
+    let p = placed 0 0 (e .list .term .entries) docid (e .first) (e .last) (e .place) in
+    omega (arith, placed-within p .1, e .ends, e .list .whole, e .list .inside)
+
+pub entry-once : (count : ℕ) {ts : List Term} {word : List ℕ} {docid a n b m : ℕ} → leaf.WellFormed count ts → EntryIs ts word docid a n → EntryIs ts word docid b m
+    → (a ≡ b) × (n ≡ m)
+entry-once count {ts} {word} {docid} w e f =
+    let l = list-once count w (e .list) (f .list) in
+    let p : entryPlace (e .list .term .entries) docid ≡ At (f .first) (f .last) = ap (λ (t : Term). entryPlace (t .entries) docid) (term-once count w (e .list) (f .list)) ∙ f .place in
+    let q = at-first (e .place) p in
+    let r = at-last (e .place) p in
+    let s = e .starts in
+    let t = f .starts in
+    (omega (arith, l .0), omega (arith, l .0, e .ends, f .ends))
+
+-- ---- what finding the list and then the entry tells
+
+-- where a match falls past what was found
+pub told-none : (ts : List Term) (sought : List ℕ) (r : WordAnswer) → OneOf (1 ∷ 2 ∷ 3 ∷ []) (tagOf word-answer.the-type r) → Tells ts sought r → NoTerm ts sought
+told-none ts sought (word.Found start size) k t = absurd (miss (1 ∷ 2 ∷ 3 ∷ []) 0 tt k)
+told-none ts sought word.Nothing k t = t
+told-none ts sought word.Shape k t = absurd t
+told-none ts sought word.Broken k t = absurd t
+
+pub told-absent : (es : List Entry) (docid : ℕ) (r : EntryAt) → OneOf (1 ∷ 2 ∷ []) (tagOf entry-at.the-type r) → r ≡ entryPlace es docid → entryPlace es docid ≡ Absent
+told-absent es docid (At first last) k e = absurd (miss (1 ∷ 2 ∷ []) 0 tt k)
+told-absent es docid Absent k e = sym e
+told-absent es docid Refused k e = place-not-refused 0 0 es docid (sym e)
+
+pub told-no-entry : (ts : List Term) (sought : List ℕ) (docid : ℕ) (r : EntryAt) → OneOf (1 ∷ 2 ∷ []) (tagOf entry-at.the-type r) → EntryTold ts sought docid r → NoEntry ts sought docid
+told-no-entry ts sought docid (At first last) k t = absurd (miss (1 ∷ 2 ∷ []) 0 tt k)
+told-no-entry ts sought docid Absent k t = t
+told-no-entry ts sought docid Refused k t = absurd t
+
+pub no-list-no-entry : {ts : List Term} {sought : List ℕ} (docid : ℕ) → NoTerm ts sought → NoEntry ts sought docid
+no-list-no-entry docid n start size e = list-not-none (e .list) n
+
+-- the list of the word is the part from `from` on, and `r` is what finding the docid in that part gave
+module _ (count : ℕ) (leaf : List ℕ) {ts : List Term} {sought : List ℕ} {from bytes : ℕ} (docid : ℕ) (g : LeafIs count leaf ts) (l : ListIs ts sought from bytes)
+    {r : EntryAt} (f : (es : List Entry) → WellFormed count es → part leaf from (from + bytes) ≡ encodeList es → r ≡ entryPlace es docid) where
+  place-is : r ≡ entryPlace (l .term .entries) docid
+  place-is = f (l .term .entries) (list-good count l (g .good)) (list-part count l leaf (g .bytes))
+
+  pub list-entry-most : {first last : ℕ} → r ≡ At first last → (first < last) × (last ≤ bytes)
+  list-entry-most {first} {last} e =
+      let p = placed-within (placed 0 0 (l .term .entries) docid first last (sym place-is ∙ e)) in
+      (p .0, omega (arith, p .1, l .whole))
+
+  pub list-entry : {first last : ℕ} → r ≡ At first last → EntryTold ts sought docid (At (from + first) (from + last))
+  list-entry {first} {last} e =
+      let m = list-entry-most e .0 in (
+        omega arith,
+        record {
+          list-start = from;
+          list-size = bytes;
+          list = l;
+          first = first;
+          last = last;
+          place = sym place-is ∙ e;
+          starts = refl;
+          ends = omega arith;
+        },
+      )
+
+  pub list-no-entry : OneOf (1 ∷ 2 ∷ []) (tagOf entry-at.the-type r) → NoEntry ts sought docid
+  list-no-entry k start size e =
+      absent-at (told-absent (l .term .entries) docid r k place-is) (ap (λ (t : Term). entryPlace (t .entries) docid) (term-once count (g .good) l (e .list)) ∙ e .place)
+
+-- ---- the docid
+
+pub not-negative : (d : ℤ) → leZ (pos 0) d ≡ true → d ≡ pos (natAbs d)
+not-negative (pos n) e = refl
+not-negative (negsuc n) e = false-not-true e
+
+pub natural-tested : (d : ℤ) → d ≡ pos (natAbs d) → leZ (pos 0) d ≡ true
+natural-tested (pos n) e = le-leb 0 n (omega arith)
+natural-tested (negsuc n) e = absurd (pos-ne-negsuc (suc n) n (sym e))
+
+-- so it is the same number without a sign
+pub unsigned : (d : ℤ) → SFits w64 d → d ≡ pos (natAbs d) → T (nonNeg d) × Fits w64 (natAbs d)
+unsigned (pos n) f e = (tt, record { fits = omega (arith, f .sfits) })
+unsigned (negsuc n) f e = absurd (pos-ne-negsuc (suc n) n (sym e))
+
+-- ---- whether number 1 is due
+
+pub refuted : {X : Type 0} → (X → ⊥) → (false ≡ true) ↔ X
+refuted n = (λ e. false-not-true e, λ x. absurd (n x))
+
+-- ---- the check of each leaf
+
+not-accepted : (r : LeafCheck) → OneOf (1 ∷ 2 ∷ []) (tagOf leaf-check.the-type r) → r ≡ Accepted → ⊥
+not-accepted r k e = miss (1 ∷ 2 ∷ []) 0 tt (subst (λ (x : LeafCheck). OneOf (1 ∷ 2 ∷ []) (tagOf leaf-check.the-type x)) e k)
+
+pub refused-no-leaf : (count : ℕ) (bytes : List ℕ) (r : LeafCheck) → CheckShape count bytes
+    → ((r ≡ Accepted) ↔ (CheckShape count bytes × ((ts : List Term) × leaf.WellFormed count ts × (bytes ≡ encodeLeaf ts))))
+    → OneOf (1 ∷ 2 ∷ []) (tagOf leaf-check.the-type r) → NoLeaf count bytes
+refused-no-leaf count bytes r h c k ts l = not-accepted r k (c .1 (h, (ts, l .good, l .bytes)))
+
+pub accepted-leaf : (count : ℕ) (bytes : List ℕ) (r : LeafCheck)
+    → ((r ≡ Accepted) ↔ (CheckShape count bytes × ((ts : List Term) × leaf.WellFormed count ts × (bytes ≡ encodeLeaf ts))))
+    → r ≡ Accepted → (ts : List Term) × LeafIs count bytes ts
+accepted-leaf count bytes r c e = let k = c .0 e in (k .1 .0, record { good = k .1 .1; bytes = k .1 .2 })
+
+-- ---- one answer is right
+
+module _ (columns : ℕ) (newer older sought : List ℕ) (docid : ℤ) where
+  abbrev Is : EntryAnswer → Type 0
+  Is = DecidingIs columns newer older sought docid
+
+  -- with the terms of both leaves at hand, an answer that decides is right
+  pub decides-is : (ts us : List Term) → DecidingShape columns newer older sought docid → LeavesAre columns newer older ts us → (r : EntryAnswer)
+      → Decides ts us sought (natAbs docid) r → Is r
+  decides-is ts us h l (Newer start size) d = (h, (ts, us, l, d))
+  decides-is ts us h l (Older start size) d = (h, (ts, us, l, d .0, d .1))
+  decides-is ts us h l Nothing d = (h, (ts, us, l, d .0, d .1))
+  decides-is ts us h l Shape d = absurd d
+  decides-is ts us h l NewerBroken d = absurd d
+  decides-is ts us h l OlderBroken d = absurd d
+
+  -- two answers about the terms of the leaves
+  module _ (h : DecidingShape columns newer older sought docid) {ts us vs ws : List Term} (l : LeavesAre columns newer older ts us) (m : LeavesAre columns newer older vs ws) where
+    newer-same : vs ≡ ts
+    newer-same = same-terms columns newer vs ts (omega (arith, h .size)) (m .0) (l .0)
+
+    older-same : ws ≡ us
+    older-same = same-terms columns older ws us (omega (arith, h .size)) (m .1) (l .1)
+
+    both-newer : (a n b k : ℕ) → EntryIs ts sought (natAbs docid) a n → EntryIs vs sought (natAbs docid) b k → Newer a n ≡ Newer b k
+    both-newer a n b k e f =
+        let q = entry-once columns (l .0 .good) e (subst (λ (x : List Term). EntryIs x sought (natAbs docid) b k) newer-same f) in
+        ap₂ Newer (q .0) (q .1)
+
+    both-older : (a n b k : ℕ) → EntryIs us sought (natAbs docid) a n → EntryIs ws sought (natAbs docid) b k → Older a n ≡ Older b k
+    both-older a n b k e f =
+        let q = entry-once columns (l .1 .good) e (subst (λ (x : List Term). EntryIs x sought (natAbs docid) b k) older-same f) in
+        ap₂ Older (q .0) (q .1)
+
+    newer-not : (a n : ℕ) → EntryIs ts sought (natAbs docid) a n → NoEntry vs sought (natAbs docid) → ⊥
+    newer-not a n e f = subst (λ (x : List Term). NoEntry x sought (natAbs docid)) newer-same f a n e
+
+    older-not : (a n : ℕ) → EntryIs us sought (natAbs docid) a n → NoEntry ws sought (natAbs docid) → ⊥
+    older-not a n e f = subst (λ (x : List Term). NoEntry x sought (natAbs docid)) older-same f a n e
+
+  -- and one that is right decides
+  pub is-decides : (ts us : List Term) → DecidingShape columns newer older sought docid → LeavesAre columns newer older ts us → (r : EntryAnswer)
+      → Is r → Decides ts us sought (natAbs docid) r
+  is-decides ts us h l (Newer start size) p = subst (λ (x : List Term). EntryIs x sought (natAbs docid) start size) (newer-same h l (p .1 .2)) (p .1 .3)
+  is-decides ts us h l (Older start size) p = (
+    subst (λ (x : List Term). NoEntry x sought (natAbs docid)) (newer-same h l (p .1 .2)) (p .1 .3),
+    subst (λ (x : List Term). EntryIs x sought (natAbs docid) start size) (older-same h l (p .1 .2)) (p .1 .4),
+  )
+  is-decides ts us h l Nothing p = (
+    subst (λ (x : List Term). NoEntry x sought (natAbs docid)) (newer-same h l (p .1 .2)) (p .1 .3),
+    subst (λ (x : List Term). NoEntry x sought (natAbs docid)) (older-same h l (p .1 .2)) (p .1 .4),
+  )
+  is-decides ts us h l Shape p = absurd (p h)
+  is-decides ts us h l NewerBroken p = absurd (p .1 ts (l .0))
+  is-decides ts us h l OlderBroken p = absurd (p .2 us (l .1))
+
+  deciding-once : (a b : EntryAnswer) → Is a → Is b → a ≡ b
+  deciding-once (Newer a n) (Newer b k) p q = both-newer (p .0) (p .1 .2) (q .1 .2) a n b k (p .1 .3) (q .1 .3)
+  deciding-once (Newer a n) (Older b k) p q = absurd (newer-not (p .0) (p .1 .2) (q .1 .2) a n (p .1 .3) (q .1 .3))
+  deciding-once (Newer a n) Nothing p q = absurd (newer-not (p .0) (p .1 .2) (q .1 .2) a n (p .1 .3) (q .1 .3))
+  deciding-once (Newer a n) Shape p q = absurd (q (p .0))
+  deciding-once (Newer a n) NewerBroken p q = absurd (q .1 (p .1 .0) (p .1 .2 .0))
+  deciding-once (Newer a n) OlderBroken p q = absurd (q .2 (p .1 .1) (p .1 .2 .1))
+  deciding-once (Older a n) (Newer b k) p q = absurd (newer-not (q .0) (q .1 .2) (p .1 .2) b k (q .1 .3) (p .1 .3))
+  deciding-once (Older a n) (Older b k) p q = both-older (p .0) (p .1 .2) (q .1 .2) a n b k (p .1 .4) (q .1 .4)
+  deciding-once (Older a n) Nothing p q = absurd (older-not (p .0) (p .1 .2) (q .1 .2) a n (p .1 .4) (q .1 .4))
+  deciding-once (Older a n) Shape p q = absurd (q (p .0))
+  deciding-once (Older a n) NewerBroken p q = absurd (q .1 (p .1 .0) (p .1 .2 .0))
+  deciding-once (Older a n) OlderBroken p q = absurd (q .2 (p .1 .1) (p .1 .2 .1))
+  deciding-once Nothing (Newer b k) p q = absurd (newer-not (q .0) (q .1 .2) (p .1 .2) b k (q .1 .3) (p .1 .3))
+  deciding-once Nothing (Older b k) p q = absurd (older-not (q .0) (q .1 .2) (p .1 .2) b k (q .1 .4) (p .1 .4))
+  deciding-once Nothing Nothing p q = refl
+  deciding-once Nothing Shape p q = absurd (q (p .0))
+  deciding-once Nothing NewerBroken p q = absurd (q .1 (p .1 .0) (p .1 .2 .0))
+  deciding-once Nothing OlderBroken p q = absurd (q .2 (p .1 .1) (p .1 .2 .1))
+  deciding-once Shape (Newer b k) p q = absurd (p (q .0))
+  deciding-once Shape (Older b k) p q = absurd (p (q .0))
+  deciding-once Shape Nothing p q = absurd (p (q .0))
+  deciding-once Shape Shape p q = refl
+  deciding-once Shape NewerBroken p q = absurd (p (q .0))
+  deciding-once Shape OlderBroken p q = absurd (p (q .0))
+  deciding-once NewerBroken (Newer b k) p q = absurd (p .1 (q .1 .0) (q .1 .2 .0))
+  deciding-once NewerBroken (Older b k) p q = absurd (p .1 (q .1 .0) (q .1 .2 .0))
+  deciding-once NewerBroken Nothing p q = absurd (p .1 (q .1 .0) (q .1 .2 .0))
+  deciding-once NewerBroken Shape p q = absurd (q (p .0))
+  deciding-once NewerBroken NewerBroken p q = refl
+  deciding-once NewerBroken OlderBroken p q = absurd (p .1 (q .1 .0) (q .1 .1))
+  deciding-once OlderBroken (Newer b k) p q = absurd (p .2 (q .1 .1) (q .1 .2 .1))
+  deciding-once OlderBroken (Older b k) p q = absurd (p .2 (q .1 .1) (q .1 .2 .1))
+  deciding-once OlderBroken Nothing p q = absurd (p .2 (q .1 .1) (q .1 .2 .1))
+  deciding-once OlderBroken Shape p q = absurd (q (p .0))
+  deciding-once OlderBroken NewerBroken p q = absurd (q .1 (p .1 .0) (p .1 .1))
+  deciding-once OlderBroken OlderBroken p q = refl
+
+  -- an answer whose claim holds is given exactly
+  pub deciding-exact : {r : EntryAnswer} → Is r → (a : EntryAnswer) → (r ≡ a) ↔ Is a
+  deciding-exact {r} p a = (λ e. subst Is e p, λ q. deciding-once r a p q)
+
+  pub newer-inside : (start size : ℕ) → Is (Newer start size) → start + size ≤ length newer
+  newer-inside start size p = omega (arith, entry-inside (p .1 .3), ap length (p .1 .2 .0 .bytes))
+
+  pub older-inside : (start size : ℕ) → Is (Older start size) → start + size ≤ length older
+  older-inside start size p = omega (arith, entry-inside (p .1 .4), ap length (p .1 .2 .1 .bytes))
+
+-- where a match falls past what was found, the part is empty
+pub none-decides : (newer older : List ℕ) (r : EntryAnswer) → OneOf (2 ∷ 3 ∷ 4 ∷ 5 ∷ []) (tagOf entry-answer.the-type r) → [] ≡ entryPart newer older r
+none-decides newer older (Newer start size) k = absurd (miss (2 ∷ 3 ∷ 4 ∷ 5 ∷ []) 0 tt k)
+none-decides newer older (Older start size) k = absurd (miss (2 ∷ 3 ∷ 4 ∷ 5 ∷ []) 1 tt k)
+none-decides newer older Nothing k = refl
+none-decides newer older Shape k = refl
+none-decides newer older NewerBroken k = refl
+none-decides newer older OlderBroken k = refl

@@ -1,0 +1,4 @@
+pub mod Ordering
+pub mod Seeking
+pub mod WordLaws
+pub mod EntryLaws

@@ -1,0 +1,134 @@
+-- The walk that seeks a word: the terms that it passed have other words, and where it stops the word's list stands or no
+-- later term has the word.
+use Prim.Native.Nat.{ℕ, _+_, _-_, _^_, _≤_, _<_}
+use native.Mathlib.Omega.{arith}
+use mathlib.Core.Path.{_≡_, refl, sym, ap, _∙_, subst}
+use mathlib.Core.List.{List, [], _∷_, _++_, append-assoc, append-nil}
+use lib.ListN.{length, drop, length-drop}
+use Rattle.common.specs.Bytes.{part}
+use Rattle.doclist.specs.Doclist.{encodeList}
+use Rattle.leaf.specs.Leaf.{Term, Before, shared, encodeTerms, encodeLeaf, ListIs, NoTerm}
+use Rattle.leaf.specs.Reading.{firstWord, headAt}
+use Rattle.leaf.specs.declared.Head.the-variants as head
+use Rattle.leaf.proofs.Words.{before-irrefl}
+use Rattle.leaf.proofs.Heads.{head-sound}
+use Rattle.leaf.proofs.Rest.{RestIs, Meets, leaf-rest, head-complete, head-not-refused, none-left}
+use Rattle.leaf.proofs.Once.{passed-over, no-term-append}
+use Rattle.lookup.specs.Order.{OrderIs, StandsIs}
+use Rattle.lookup.specs.Words.{LeafIs}
+use Rattle.lookup.specs.declared.Order.{Order}
+use Rattle.lookup.specs.declared.Order.the-variants.{Less, Equal, Greater}
+
+-- the walk is at `i`: the terms `done` have other words, and `rest` are stored from there on, behind a word that comes
+-- before the one sought and shares `same` bytes with it
+pub record Seeking (count : ℕ) (s word : List ℕ) (ts : List Term) (i same : ℕ) : Type 0 where
+  pub done : List Term
+  pub rest : List Term
+  pub before : List ℕ
+  pub stands : ts ≡ done ++ rest
+  pub none : NoTerm done word
+  pub earlier : Before before word
+  pub shares : shared before word ≡ same
+  pub here : RestIs count s i before rest []
+
+pub seeking-start : (count : ℕ) (s word : List ℕ) (ts : List Term) → 0 < length word → LeafIs count s ts → Seeking count s word ts firstWord 0
+seeking-start count s word ts h l =
+    record {
+      done = [];
+      rest = ts;
+      before = [];
+      stands = refl;
+      none = tt;
+      earlier = not-empty word h;
+      shares = refl;
+      here = leaf-rest count s ts [] (l .good) (l .bytes ∙ sym (append-nil (encodeLeaf ts)));
+    }
+  where
+    not-empty : (word : List ℕ) → 0 < length word → Before [] word
+    not-empty [] h = absurd (omega arith)
+    not-empty (b ∷ word) h = tt
+
+module _ (count : ℕ) (s word : List ℕ) (ts : List Term) (i same : ℕ) (small : length s < 2 ^ 63) (k : Seeking count s word ts i same) where
+  pub seeking-end : length s ≤ i → NoTerm ts word
+  seeking-end h =
+      let e = none-left count s small (k .rest) (k .here) h in
+      subst (λ (l : List Term). NoTerm l word) (sym (k .stands)) (no-term-append (k .done) (k .rest) word (k .none) (subst (λ (l : List Term). NoTerm l word) (sym e) tt))
+
+  -- the next term
+  record Next : Type 0 where
+    pub term : Term
+    pub after : List Term
+    pub whole : ts ≡ k .done ++ (term ∷ after)
+    pub stored : RestIs count s i (k .before) (term ∷ after) []
+
+  next : i < length s → Next
+  next h = go (k .rest) (k .here) (k .stands)
+    where
+      go : (rest : List Term) → RestIs count s i (k .before) rest [] → ts ≡ k .done ++ rest → Next
+      go [] r e = absurd (omega (arith, simp length-drop at (ap length (r .bytes))))
+      go (t ∷ us) r e = record { term = t; after = us; whole = e; stored = r }
+
+  pub seeking-refused : i < length s → headAt s i ≡ head.Refused → NoTerm ts word
+  seeking-refused h e = head-not-refused count s small (next h .stored) e
+
+  module _ (h : i < length s) {p f n l x : ℕ} (e : headAt s i ≡ head.Found p f n l x) (o : Order) (st : StandsIs word same p (part s f (f + n)) o) where
+    -- the next term, as it was met, and how its word stands to the one sought
+    record Met : Type 0 where
+      pub next-term : Next
+      pub meets : Meets count s i (k .before) (next-term .term) (next-term .after) [] p f n l x
+      pub order : OrderIs (next-term .term .word) word o
+
+    met : Met
+    met =
+        let t = next h in
+        let m = head-complete count s small (t .stored) e in
+        record {
+          next-term = t;
+          meets = m;
+          order =
+              subst (λ (w : List ℕ). OrderIs w word o) (m .word)
+              (st (k .before) (k .earlier) (k .shares) (subst (Before (k .before)) (sym (m .word)) (t .stored .good .0))
+              (ap (shared (k .before)) (m .word) ∙ sym (m .shares)));
+        }
+
+    pub seeking-next : {more : ℕ} → o ≡ Less more → Seeking count s word ts x more
+    seeking-next q =
+        let t = met in
+        let w = subst (OrderIs (t .next-term .term .word) word) q (t .order) in
+        record {
+          done = k .done ++ (t .next-term .term ∷ []);
+          rest = t .next-term .after;
+          before = t .next-term .term .word;
+          stands = t .next-term .whole ∙ sym (append-assoc (k .done) (t .next-term .term ∷ []) (t .next-term .after));
+          none = no-term-append (k .done) (t .next-term .term ∷ []) word (k .none) (λ z. before-irrefl word (subst (λ (v : List ℕ). Before v word) z (w .0)), tt);
+          earlier = w .0;
+          shares = w .1;
+          here = t .meets .rest;
+        }
+
+    pub seeking-behind : o ≡ Greater → NoTerm ts word
+    seeking-behind q =
+        let t = met in
+        let w = subst (OrderIs (t .next-term .term .word) word) q (t .order) in
+        subst (λ (v : List Term). NoTerm v word) (sym (t .next-term .whole))
+        (no-term-append (k .done) _ word (k .none) (passed-over count (k .before) (t .next-term .term) (t .next-term .after) word (t .next-term .stored .good) w))
+
+    pub seeking-found : s ≡ encodeLeaf ts → o ≡ Equal → ListIs ts word l (x - l)
+    seeking-found b q =
+        let t = met in
+        let w = subst (OrderIs (t .next-term .term .word) word) q (t .order) in
+        let m = t .meets in
+        let d = head-sound s i e in
+        record {
+          before = k .done;
+          term = t .next-term .term;
+          after = t .next-term .after;
+          stands = t .next-term .whole;
+          same-word = w;
+          bytes =
+              ap (drop l) (sym b)
+              ∙ m .list-here
+              ∙ ap (λ (v : List ℕ). encodeList (t .next-term .term .entries) ++ v) (append-nil (encodeTerms (t .next-term .term .word) (t .next-term .after)));
+          whole = omega (arith, m .list-ends);
+          inside = omega (arith, d .ends, d .within, ap length b);
+        }

@@ -1,0 +1,112 @@
+-- The entry that decides in two leaves, newer and older (document 01, "Lookups"): the newer leaf's entry for the word and
+-- the docid where it has one, a deletion too; else the older's. Exactly one answer's claim holds, and that answer is given.
+use Prim.Native.Nat.{ℕ, _+_, _-_, _≤_}
+use mathlib.Core.Path.{_≡_}
+use mathlib.Core.List.{List, []}
+use lib.IntN.{ℤ, pos, natAbs}
+use lib.ListN.{length}
+use Rattle.common.specs.Bytes.{part}
+use Rattle.doclist.specs.Doclist.{maxColumns, entryPlace}
+use Rattle.doclist.specs.declared.EntryAt.{EntryAt}
+use Rattle.doclist.specs.declared.EntryAt.the-variants.{At, Absent, Refused}
+use Rattle.leaf.specs.Leaf.{Term, ListIs}
+use Rattle.leaf.specs.Answers.{maxLeaves}
+use Rattle.lookup.specs.Words.{WordShape, LeafIs, NoLeaf}
+use Rattle.lookup.specs.declared.EntryAnswer.{EntryAnswer}
+use Rattle.lookup.specs.declared.EntryAnswer.the-variants.{Newer, Older, Nothing, Shape, NewerBroken, OlderBroken}
+
+-- ---- the entry of a docid in one leaf
+
+-- in the posting list of `word`, the entry of `docid` is the `size` bytes from `start` on, from its docid number to its closing 0
+pub record EntryIs (ts : List Term) (word : List ℕ) (docid start size : ℕ) : Type 0 where
+  pub list-start : ℕ
+  pub list-size : ℕ
+  pub list : ListIs ts word list-start list-size
+  pub first : ℕ
+  pub last : ℕ
+  pub place : entryPlace (list .term .entries) docid ≡ At first last
+  pub starts : start ≡ list-start + first
+  pub ends : start + size ≡ list-start + last
+
+abbrev pub NoEntry : List Term → List ℕ → ℕ → Type 0
+NoEntry ts word docid = (start size : ℕ) → EntryIs ts word docid start size → ⊥
+
+-- what a place says of the terms of an accepted leaf
+abbrev pub EntryTold : List Term → List ℕ → ℕ → EntryAt → Type 0
+EntryTold ts word docid (At start end) = (start ≤ end) × EntryIs ts word docid start (end - start)
+EntryTold ts word docid Absent = NoEntry ts word docid
+EntryTold ts word docid Refused = ⊥
+
+-- ---- the entry that decides
+
+-- number 1 is not due: both leaves together have at most 65,536 bytes, and the docid is not negative
+pub record DecidingShape (columns : ℕ) (newer older word : List ℕ) (docid : ℤ) : Type 0 where
+  pub some : 1 ≤ columns
+  pub few : columns ≤ maxColumns
+  pub size : length newer + length older ≤ maxLeaves
+  pub word-right : WordShape word
+  pub natural : docid ≡ pos (natAbs docid)
+
+-- the two leaves have these terms
+abbrev pub LeavesAre : ℕ → List ℕ → List ℕ → List Term → List Term → Type 0
+LeavesAre columns newer older ts us = LeafIs columns newer ts × LeafIs columns older us
+
+-- what an answer says of the terms of two accepted leaves
+abbrev pub Decides : List Term → List Term → List ℕ → ℕ → EntryAnswer → Type 0
+Decides ts us word docid (Newer start size) = EntryIs ts word docid start size
+Decides ts us word docid (Older start size) = NoEntry ts word docid × EntryIs us word docid start size
+Decides ts us word docid Nothing = NoEntry ts word docid × NoEntry us word docid
+Decides ts us word docid Shape = ⊥
+Decides ts us word docid NewerBroken = ⊥
+Decides ts us word docid OlderBroken = ⊥
+
+-- what each answer claims
+abbrev pub DecidingIs : ℕ → List ℕ → List ℕ → List ℕ → ℤ → EntryAnswer → Type 0
+DecidingIs columns newer older word docid (Newer start size) =
+    DecidingShape columns newer older word docid
+    × ((ts us : List Term) × LeavesAre columns newer older ts us × EntryIs ts word (natAbs docid) start size)
+DecidingIs columns newer older word docid (Older start size) =
+    DecidingShape columns newer older word docid
+    × ((ts us : List Term) × LeavesAre columns newer older ts us × NoEntry ts word (natAbs docid) × EntryIs us word (natAbs docid) start size)
+DecidingIs columns newer older word docid Nothing =
+    DecidingShape columns newer older word docid
+    × ((ts us : List Term) × LeavesAre columns newer older ts us × NoEntry ts word (natAbs docid) × NoEntry us word (natAbs docid))
+DecidingIs columns newer older word docid Shape = DecidingShape columns newer older word docid → ⊥
+DecidingIs columns newer older word docid NewerBroken = DecidingShape columns newer older word docid × NoLeaf columns newer
+DecidingIs columns newer older word docid OlderBroken =
+    DecidingShape columns newer older word docid × ((ts : List Term) × LeafIs columns newer ts) × NoLeaf columns older
+
+-- ---- document 01's numbers, and the part
+
+abbrev pub entryNumber : EntryAnswer → ℕ
+entryNumber (Newer start size) = 0
+entryNumber (Older start size) = 0
+entryNumber Nothing = 0
+entryNumber Shape = 1
+entryNumber NewerBroken = 3
+entryNumber OlderBroken = 3
+
+-- beside 3 stands the leaf: the newer is 0, the older 1
+abbrev pub entryBeside : EntryAnswer → ℕ
+entryBeside (Newer start size) = size
+entryBeside (Older start size) = size
+entryBeside Nothing = 0
+entryBeside Shape = 0
+entryBeside NewerBroken = 0
+entryBeside OlderBroken = 1
+
+abbrev pub entryPart : List ℕ → List ℕ → EntryAnswer → List ℕ
+entryPart newer older (Newer start size) = part newer start (start + size)
+entryPart newer older (Older start size) = part older start (start + size)
+entryPart newer older Nothing = []
+entryPart newer older Shape = []
+entryPart newer older NewerBroken = []
+entryPart newer older OlderBroken = []
+
+-- what the lookup hands back: the part and the two numbers of the answer whose claim holds
+pub record EntryGiven (columns : ℕ) (newer older word : List ℕ) (docid : ℤ) (part : List ℕ) (number beside : ℕ) : Type 0 where
+  pub answer : EntryAnswer
+  pub right : DecidingIs columns newer older word docid answer
+  pub part-is : part ≡ entryPart newer older answer
+  pub number-is : number ≡ entryNumber answer
+  pub beside-is : beside ≡ entryBeside answer

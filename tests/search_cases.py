@@ -1,0 +1,164 @@
+"""Compared cases of the search."""
+import random
+
+import reference
+from case_writer import Cases, joined
+
+SEARCH, EDITED = 1, 2
+SEED = 20265
+NAMES = [b"node", b"sent", b"outcome"]
+VERDICT = b"outcome:reply NOT outcome:timeout"
+SILENCE_ROOM = 400
+QUERIES = [
+    b"reply", VERDICT, b"n1 OR n2 OR n3", b"n1 reply", b'"no reply"', b"no NEAR/0 timeout", b"no NEAR/1 timeout", b"timeout NEAR/1 no",
+    b"n* timeout", b"t1* reply", b"reply NOT late", b"outcome:re*", b"node:reply", b"absent", b"a*", b'"reply la*"', b"late NEAR reply",
+    b"(n1 OR n2) NOT (late OR timeout)", b"sent:t1* NOT n1*", b"no NEAR reply NEAR timeout", b"reply NEAR/0 reply", b'"no reply" NEAR/0 timeout',
+]
+
+
+def ask(cases, query, leaves, room, names=NAMES, name_ends=None, leaf_ends=None):
+    """The room's size is handed in; the program fills it with other numbers beforehand."""
+    names_data, ends = joined(names)
+    leaves_data, cuts = joined(leaves)
+    name_ends = ends if name_ends is None else name_ends
+    leaf_ends = cuts if leaf_ends is None else leaf_ends
+    cases.number(SEARCH).field(names_data).ends(name_ends).field(leaves_data).ends(leaf_ends).field(query).number(room)
+    expect(cases, *reference.search(names_data, name_ends, leaves_data, leaf_ends, query, room))
+
+
+def expect(cases, number, beside, after):
+    """The two numbers, the docids listed, and how many numbers behind them are not 0."""
+    listed = after[:beside] if number == 0 else []
+    cases.expect(number, beside, *listed, sum(1 for d in after[len(listed):] if d != 0))
+
+
+def ask_rooms(cases, query, leaves):
+    count = reference.search(*joined(NAMES), *joined(leaves), query, 0)[1]
+    for room in {0, max(count - 1, 0), count, count + 3}:
+        ask(cases, query, leaves, room)
+
+
+def leaf_of(rows, deleted=()):
+    """The leaf for rows (docid, texts), with a deletion of (word, docid) for each of `deleted`."""
+    lists = {}
+    for docid, texts in rows:
+        for word, entries in reference.document_terms(docid, texts):
+            lists.setdefault(word, {})[docid] = entries[0][1]
+    for word, docid in deleted:
+        lists.setdefault(word, {})[docid] = []
+    return reference.encode_leaf([(word, sorted(lists[word].items())) for word in sorted(lists)])
+
+
+def probe(rng, docid):
+    outcome = rng.choice((b"reply", b"reply late", b"no reply, timeout", b"reply reply", b"late reply no timeout"))
+    return docid, [b"n%d" % rng.randrange(1, 5), b"t%d" % (docid * 7 % 40), outcome]
+
+
+def indexes(cases, rng):
+    """Rows inserted, updated and deleted over several leaves."""
+    for _ in range(40):
+        rows, leaves = {}, []
+        for _ in range(rng.randrange(1, 9)):
+            fresh, gone = [], []
+            for _ in range(rng.randrange(1, 5)):
+                docid = rng.randrange(1, 12)
+                if docid in rows:
+                    for word, _ in reference.document_terms(docid, rows[docid]):
+                        gone.append((word, docid))
+                    del rows[docid]
+                if rng.randrange(3):
+                    row = probe(rng, docid)
+                    rows[docid] = row[1]
+                    fresh = [r for r in fresh if r[0] != docid] + [row]
+            leaves.insert(0, leaf_with(fresh, gone))
+        for query in rng.sample(QUERIES, 6):
+            ask_rooms(cases, query, [leaf for leaf in leaves if leaf])
+
+
+def leaf_with(fresh, gone):
+    live = {(word, docid) for docid, texts in fresh for word, _ in reference.document_terms(docid, texts)}
+    return leaf_of(fresh, [pair for pair in gone if pair not in live])
+
+
+def shapes(cases):
+    one = leaf_of([probe(random.Random(1), d) for d in range(1, 4)])
+    for count in (0, 1, 8, 9):
+        ask(cases, b"reply", [one] * count, 9)
+    big = reference.encode_leaf([(b"reply", [(d, []) for d in range(1, 32700)])])
+    for size in (65536, 65537):
+        leaf = big
+        pad = size - len(leaf)
+        entries = [(1, [(0, list(range(0, pad - 9)))])]
+        leaves = [leaf, reference.encode_leaf([(b"w", entries)])]
+        short = size - sum(map(len, leaves))
+        leaves[1] = reference.encode_leaf([(b"w" * (1 + short), entries)])
+        ask(cases, b"reply OR w*", leaves, 5)
+    names = [b"c%d" % i for i in range(17)]
+    ask(cases, b"c1:reply", [one], 9, names[:16])
+    ask(cases, b"reply", [one], 9, names)
+    ask(cases, b"reply", [one], 9, [])
+    ask(cases, b"reply", [one], 9, [b"a", b"A"])
+    ask(cases, b"reply", [one], 9, name_ends=[4, 3, 15])
+    ask(cases, b"reply", [one], 9, leaf_ends=[len(one) + 1])
+    ask(cases, b"reply", [one], 9, leaf_ends=[])
+    ask(cases, b"reply", [b"", one], 9)
+
+
+def faults(cases):
+    """Each refusal, and each pair of two at once."""
+    good = leaf_of([(d, [b"n1", b"t", b"reply"]) for d in range(1, 6)])
+    bad = good[:-1]
+    for names in (NAMES, [b"a", b"A", b"b"]):
+        for query in (b"reply", b"reply AND", b"nonesuch:reply"):
+            for leaves in ([good], [bad], [good, bad], [bad, good], [good, good, bad, bad]):
+                for room in (0, 4, 5, 6):
+                    ask(cases, query, leaves, room, names)
+
+
+def ask_edited(cases, leaf, at, removed, inserted):
+    """The search asked last, over its leaf with some bytes exchanged."""
+    cases.number(EDITED).number(at).number(removed).field(inserted)
+    edited = leaf[:at] + inserted + leaf[at + removed:]
+    expect(cases, *reference.search(*joined(NAMES), *joined([edited]), VERDICT, SILENCE_ROOM))
+
+
+def silence(cases):
+    """312 rows, 40 of them silence; then the list of "timeout" damaged at each place, and its length lowered."""
+    rows = [(d, [b"n%d" % (d % 48), b"", b"no reply, timeout" if d % 7 == 0 and d < 281 else b"reply"]) for d in range(1, 313)]
+    leaf = leaf_of(rows)
+    assert reference.search(*joined(NAMES), *joined([leaf]), VERDICT, SILENCE_ROOM)[:2] == (0, 272)
+    ask(cases, VERDICT, [leaf], SILENCE_ROOM)
+    start, end = [(a, e) for term, _, a, e in reference.parse_leaf(leaf, 3) if term == b"timeout"][0]
+    for at in range(start, end):
+        ask_edited(cases, leaf, at, 1, b"")
+        ask_edited(cases, leaf, at, len(leaf) - at, b"")
+    size = end - start
+    stored = len(reference.encode_varint(size))
+    for lower in range(size):
+        ask_edited(cases, leaf, start - stored, stored, reference.encode_varint(lower))
+
+
+def positions(cases):
+    """NEAR at its exact distance in both orders, phrases, columns."""
+    rows = [
+        (1, [b"a x b", b"", b""]), (2, [b"b x a", b"", b""]), (3, [b"a", b"b", b""]), (4, [b"a b", b"", b""]), (5, [b"a x x b", b"a b", b""]),
+        (6, [b"a a a", b"", b"b"]), (7, [b"a " + b"x " * 10 + b"b", b"", b""]), (8, [b"a " + b"x " * 11 + b"b", b"", b""]), (9, [b"b a b", b"", b"ab abc"]),
+    ]
+    leaf = leaf_of(rows)
+    for query in (
+        b"a NEAR/0 b", b"b NEAR/1 a", b"b NEAR/0 a", b"a NEAR b", b"a NEAR/2 b", b"a NEAR/10 b", b"a NEAR/11 b", b'"a b"', b'"a x b"', b'"b a"', b"a NEAR/0 a",
+        b"a NEAR b NEAR a", b"b NEAR/0 a NEAR/0 b", b'"a x" NEAR/0 b', b'b NEAR/0 "a b"', b'"a b" NEAR/0 b', b"node:a NEAR sent:b", b"node:a sent:b", b"sent:a NEAR sent:b",
+        b"ab*", b"a*", b'"ab ab*"', b"a* NEAR/0 b*", b"x NEAR/0 x", b"a NOT b", b"b NOT a", b"outcome:a*", b'"a* b"', b"a NEAR/1 x NEAR/1 b",
+    ):
+        ask_rooms(cases, query, [leaf])
+
+
+def make():
+    cases = Cases()
+    rng = random.Random(SEED)
+    positions(cases)
+    indexes(cases, rng)
+    shapes(cases)
+    faults(cases)
+    silence(cases)
+    return cases.files()
