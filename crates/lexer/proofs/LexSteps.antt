@@ -1,0 +1,227 @@
+-- How the code finds the next token, test by test.
+use Prim.Native.Nat.{ℕ, _+_, _-_, _≤_, _<_}
+use native.Mathlib.Numerals.{add-one}
+use native.Mathlib.Omega.{arith}
+use mathlib.Core.Path.{_≡_, refl, sym, ap, _∙_}
+use mathlib.Core.Bool.{true, false}
+use mathlib.Core.List.{List, []}
+use lib.ListN.{length, getD, take, drop, length-drop, List·getD-eq-default}
+use lib.Seq.{drop-cons, length-take-le}
+use lib.Dec.{ltb}
+use borrow.Author.Tests.{eq-eqb, ne-eqb, le-ltb, lt-ltb}
+use Rattle.common.specs.Pick.{pick}
+use Rattle.common.specs.Bytes.{span, same}
+use Rattle.common.proofs.Cases.{pick-case}
+use Rattle.common.proofs.Lists.{span-most}
+use Rattle.tokenizer.specs.Word.{isDigit, places}
+use Rattle.tokenizer.proofs.General.{both-false}
+use Rattle.offsets.specs.Names.{isNameByte, columnOf, maxColumns}
+use Rattle.offsets.specs.declared.Column.the-variants.{At, Unknown}
+use Rattle.lexer.specs.Token.{anyColumn, onlyColumn, bare, written, lparen, rparen, AND, OR, NOT, NEAR, kindOf}
+use Rattle.lexer.specs.Tokens.{openByte, closeByte, quoteByte, colonByte, isSpace, isRunByte, isInner, each, bytesAND, bytesOR, bytesNOT, bytesNEAR, decimal}
+use Rattle.lexer.specs.Lexing.{blank, token, wrong, phraseOf, isStem, isNearWritten, inColumn, columnRun, Operator, operator, no-operator, operatorOf, wordNext, operatorOr, runNext, quoteNext, nextOf}
+use Rattle.lexer.specs.Filling.{pushAll, operandKind, tieBehind, distanceBehind, signOf, tokenEntries, withToken, moved}
+use Rattle.lexer.specs.declared.Sign.{Sign}
+use Rattle.lexer.specs.declared.State.{State}
+use Rattle.lexer.specs.declared.Words.{Words}
+use Rattle.lexer.proofs.General.{take-rest}
+use Rattle.lexer.proofs.Runs.{near-read}
+
+-- ---- a quoted phrase
+
+module _ (s : List ℕ) (n : ℕ) (measured : n ≡ span isInner s) where
+  pub quote-unclosed : length s ≤ n → wrong ≡ quoteNext s
+  unfolding quoteNext
+  quote-unclosed h = rw (← measured, le-ltb n (length s) h)
+
+  pub quote-empty : n < length s → ltb 0 (length (places (take n s))) ≡ false → wrong ≡ quoteNext s
+  unfolding quoteNext
+  quote-empty h e = rw (← measured, lt-ltb n (length s) h, e)
+
+  pub quote-phrase : n < length s → ltb 0 (length (places (take n s))) ≡ true → token (phraseOf (take n s) anyColumn) (n + 2) ≡ quoteNext s
+  unfolding quoteNext
+  quote-phrase h e = rw (← measured, lt-ltb n (length s) h, e)
+
+-- ---- a column's name in front
+
+module _ (names : List (List ℕ)) (s : List ℕ) (n : ℕ) (measured : n ≡ span isNameByte s) where
+  pub column-none : n ≡ 0 → wrong ≡ columnRun names s
+  unfolding columnRun
+  column-none z = rw (← measured, z)
+
+  pub column-other : (getD s n 0 ≡ colonByte → ⊥) → wrong ≡ columnRun names s
+  unfolding columnRun
+  column-other e = rw (← measured, ne-eqb (getD s n 0) colonByte e, both-false (ltb 0 n) false refl)
+
+  pub column-end : length s ≤ n → wrong ≡ columnRun names s
+  column-end h = column-other (λ e. omega (arith, List·getD-eq-default s 0 h))
+
+  module _ (some : n ≡ 0 → ⊥) (colon : getD s n 0 ≡ colonByte) where
+    -- the word behind the `:`
+    abbrev text : List ℕ
+    text = take (length s - (n + 1)) (drop (n + 1) s)
+
+    column-named : pick (isStem text) (inColumn (columnOf names (take n s)) text (length s)) wrong ≡ columnRun names s
+    unfolding columnRun
+    column-named = rw (← measured, lt-ltb 0 n (omega arith), colon, take-rest s (n + 1))
+
+    pub column-bare : isStem text ≡ false → wrong ≡ columnRun names s
+    column-bare e = ap (λ b. pick b (inColumn (columnOf names (take n s)) text (length s)) wrong) (sym e) ∙ column-named
+
+    module _ (stem : isStem text ≡ true) where
+      column-worded : inColumn (columnOf names (take n s)) text (length s) ≡ columnRun names s
+      column-worded = ap (λ b. pick b (inColumn (columnOf names (take n s)) text (length s)) wrong) (sym stem) ∙ column-named
+
+      pub column-unknown : columnOf names (take n s) ≡ Unknown → wrong ≡ columnRun names s
+      column-unknown e = ap (λ x. inColumn x text (length s)) (sym e) ∙ column-worded
+
+      pub column-past : (c : ℕ) → columnOf names (take n s) ≡ At c → maxColumns ≤ c → wrong ≡ columnRun names s
+      column-past c e h = sym (ap (λ b. pick b (token (phraseOf text (onlyColumn c)) (length s)) wrong) (le-ltb c maxColumns h)) ∙ ap (λ x. inColumn x text (length s)) (sym e) ∙ column-worded
+
+      pub column-word : (c set : ℕ) → columnOf names (take n s) ≡ At c → c < maxColumns → set ≡ onlyColumn c → token (phraseOf text set) (length s) ≡ columnRun names s
+      column-word c set e h f =
+          ap (λ k. token (phraseOf text k) (length s)) f
+          ∙ sym (ap (λ b. pick b (token (phraseOf text (onlyColumn c)) (length s)) wrong) (lt-ltb c maxColumns h))
+          ∙ ap (λ x. inColumn x text (length s)) (sym e)
+          ∙ column-worded
+
+-- ---- a run
+
+none-pushed : (w : Words) → pushAll w [] ≡ w
+unfolding pushAll
+none-pushed w = refl
+
+-- the digits of a distance
+pub digits-few : (s : List ℕ) → isNearWritten s ≡ true → length (take (length s - 5) (drop 5 s)) ≤ 4
+digits-few s e = rw (take-rest s 5) (near-read s e .few)
+
+pub digits-pass : (s : List ℕ) → isNearWritten s ≡ true → each isDigit (take (length s - 5) (drop 5 s)) ≡ true
+digits-pass s e = rw (take-rest s 5) (near-read s e .digits .passes)
+
+-- which operator a run is
+module _ (s : List ℕ) where
+  pub run-and : same s bytesAND ≡ true → operator AND ≡ operatorOf s
+  unfolding operatorOf
+  run-and e = rw e
+
+  module _ (and : same s bytesAND ≡ false) where
+    pub run-or : same s bytesOR ≡ true → operator OR ≡ operatorOf s
+    unfolding operatorOf
+    run-or e = rw (and, e)
+
+    module _ (or : same s bytesOR ≡ false) where
+      pub run-not : same s bytesNOT ≡ true → operator NOT ≡ operatorOf s
+      unfolding operatorOf
+      run-not e = rw (and, or, e)
+
+      module _ (no-not : same s bytesNOT ≡ false) where
+        pub run-near : same s bytesNEAR ≡ true → operator (NEAR bare) ≡ operatorOf s
+        unfolding operatorOf
+        run-near e = rw (and, or, no-not, e)
+
+        module _ (near : same s bytesNEAR ≡ false) where
+          pub run-written : isNearWritten s ≡ true → (d : ℕ) → d ≡ decimal (take (length s - 5) (drop 5 s)) → operator (NEAR (written d)) ≡ operatorOf s
+          unfolding operatorOf
+          run-written e d f = rw (and, or, no-not, near, e, f, take-rest s 5)
+
+          pub run-other : isNearWritten s ≡ false → no-operator ≡ operatorOf s
+          unfolding operatorOf
+          run-other e = rw (and, or, no-not, near, e)
+
+-- an operator is no operand, and has no words
+abbrev Plain : Operator → Type 0
+Plain (operator t) = (kindOf t ≡ operandKind → ⊥) × ((tie distance : ℕ) → tokenEntries tie distance t ≡ [])
+Plain no-operator = Unit {0}
+
+plain : (s : List ℕ) → Plain (operatorOf s)
+unfolding operatorOf
+plain s =
+    pick-case Plain (same s bytesAND) (operator AND) _ (λ _. ((λ e. omega arith), λ _ _. refl))
+    (λ _. pick-case Plain (same s bytesOR) (operator OR) _ (λ _. ((λ e. omega arith), λ _ _. refl))
+    (λ _. pick-case Plain (same s bytesNOT) (operator NOT) _ (λ _. ((λ e. omega arith), λ _ _. refl))
+    (λ _. pick-case Plain (same s bytesNEAR) (operator (NEAR bare)) _ (λ _. ((λ e. omega arith), λ _ _. refl))
+    (λ _. pick-case Plain (isNearWritten s) (operator (NEAR (written (decimal (drop 5 s))))) no-operator (λ _. ((λ e. omega arith), λ _ _. refl))
+    (λ _. tt)))))
+
+module _ (names : List (List ℕ)) (s : List ℕ) (o : Sign) (told : o ≡ signOf (operatorOf s)) where
+  -- a run that is an operator
+  pub operator-moved : (st : State) → (o .kind ≡ operandKind → ⊥) → withToken st (o .kind) (o .tie) (o .distance) (st .words) (length s) ≡ moved st (runNext names s)
+  unfolding runNext
+  operator-moved st some = found (operatorOf s) (plain s) told
+    where
+      found : (x : Operator) → Plain x → o ≡ signOf x → withToken st (o .kind) (o .tie) (o .distance) (st .words) (length s) ≡ moved st (operatorOr x (length s) (wordNext names s))
+      found (operator t) p e =
+          ap (λ (q : Sign). withToken st (q .kind) (q .tie) (q .distance) (st .words) (length s)) e
+          ∙ ap (λ ws. withToken st (kindOf t) (tieBehind t) (distanceBehind t) ws (length s)) (sym (ap (pushAll (st .words)) (p .1 (st .tie) (st .distance)) ∙ none-pushed (st .words)))
+      found no-operator p e = absurd (some (ap (λ q. q .kind) e))
+
+  module _ (other : o .kind ≡ operandKind) where
+    -- and any other
+    word-run : wordNext names s ≡ runNext names s
+    unfolding runNext
+    word-run = found (operatorOf s) (plain s) told
+      where
+        found : (x : Operator) → Plain x → o ≡ signOf x → wordNext names s ≡ operatorOr x (length s) (wordNext names s)
+        found (operator t) p e = absurd (p .0 (ap (λ q. q .kind) (sym e) ∙ other))
+        found no-operator p e = refl
+
+    pub run-word : isStem s ≡ true → token (phraseOf s anyColumn) (length s) ≡ runNext names s
+    unfolding wordNext
+    run-word e = ap (λ b. pick b (token (phraseOf s anyColumn) (length s)) (columnRun names s)) (sym e) ∙ word-run
+
+    pub run-column : isStem s ≡ false → columnRun names s ≡ runNext names s
+    unfolding wordNext
+    run-column e = ap (λ b. pick b (token (phraseOf s anyColumn) (length s)) (columnRun names s)) (sym e) ∙ word-run
+
+-- ---- what stands next
+
+-- the run at the front of what is left
+module _ (s : List ℕ) (at : ℕ) (inside : at < length s) (n : ℕ) (measured : n ≡ span isRunByte (take (length s - at) (drop at s))) where
+  pub run-inside : n ≤ length (take (length s - at) (drop at s))
+  run-inside = omega (arith, span-most isRunByte (take (length s - at) (drop at s)))
+
+  pub run-fits : at + length (take n (take (length s - at) (drop at s))) ≤ length s
+  run-fits = omega (arith, ap length (take-rest s at), length-drop at s, run-inside, length-take-le n (take (length s - at) (drop at s)) run-inside)
+
+module _ (names : List (List ℕ)) (s : List ℕ) (at : ℕ) (inside : at < length s) where
+  pub next-space : isSpace (getD s at 0) ≡ true → blank ≡ nextOf names (drop at s)
+  unfolding nextOf
+  next-space e = rw (drop-cons s at 0 inside, e)
+
+  module _ (space : isSpace (getD s at 0) ≡ false) where
+    pub next-open : getD s at 0 ≡ openByte → token lparen 1 ≡ nextOf names (drop at s)
+    unfolding nextOf
+    next-open e = rw (drop-cons s at 0 inside, space, eq-eqb (getD s at 0) openByte e)
+
+    module _ (open-byte : getD s at 0 ≡ openByte → ⊥) where
+      pub next-close : getD s at 0 ≡ closeByte → token rparen 1 ≡ nextOf names (drop at s)
+      unfolding nextOf
+      next-close e = rw (drop-cons s at 0 inside, space, ne-eqb (getD s at 0) openByte open-byte, eq-eqb (getD s at 0) closeByte e)
+
+      module _ (close-byte : getD s at 0 ≡ closeByte → ⊥) where
+        pub next-quote : getD s at 0 ≡ quoteByte → quoteNext (take (length s - (at + 1)) (drop (at + 1) s)) ≡ nextOf names (drop at s)
+        unfolding nextOf
+        next-quote e =
+            rw (
+              drop-cons s at 0 inside,
+              space,
+              ne-eqb (getD s at 0) openByte open-byte,
+              ne-eqb (getD s at 0) closeByte close-byte,
+              eq-eqb (getD s at 0) quoteByte e,
+              take-rest s (at + 1),
+              add-one at,
+            )
+
+        module _ (quote-byte : getD s at 0 ≡ quoteByte → ⊥) (n : ℕ) (measured : n ≡ span isRunByte (take (length s - at) (drop at s))) where
+          pub next-run : runNext names (take n (take (length s - at) (drop at s))) ≡ nextOf names (drop at s)
+          unfolding nextOf
+          next-run =
+              rw (
+                measured,
+                take-rest s at,
+                drop-cons s at 0 inside,
+                space,
+                ne-eqb (getD s at 0) openByte open-byte,
+                ne-eqb (getD s at 0) closeByte close-byte,
+                ne-eqb (getD s at 0) quoteByte quote-byte,
+              )

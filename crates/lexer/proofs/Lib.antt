@@ -1,0 +1,15 @@
+pub mod General
+pub mod Stretches
+pub mod Phrases
+pub mod Runs
+pub mod RunSteps
+pub mod TokenLaws
+pub mod Numbers
+pub mod WordLaws
+pub mod PhraseSteps
+pub mod LexSteps
+pub mod Packing
+pub mod TokenNodes
+pub mod Answers
+pub mod LexLaws
+pub mod Examples

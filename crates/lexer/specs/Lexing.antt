@@ -1,0 +1,182 @@
+-- What the lexer hands out: `Lexes` says it, with document 01's bounds on a query's bytes and words in `QueryTokens`. Below
+-- that, `lexOf` goes through the bytes from the left, one token at a time, as the code does; the crate proves that it
+-- finds exactly the tokens of `Tokens`.
+use Prim.Native.Nat.{ℕ, zero, suc, _+_, _≤_, _<_}
+use mathlib.Core.Path.{_≡_}
+use mathlib.Core.Logic.{_↔_}
+use mathlib.Core.Bool.{Bool, true, false}
+use mathlib.Core.List.{List, [], _∷_, map}
+use lib.ListN.{length, getD, take, drop, replicate}
+use lib.Dec.{eqb, leb, ltb}
+use Rattle.common.specs.Pick.{pick, both, either}
+use Rattle.common.specs.Bytes.{span, same, within}
+use Rattle.tokenizer.specs.Word.{isWord, isDigit, Place, places, wordAt, maxWord}
+use Rattle.offsets.specs.Names.{isNameByte, columnOf, maxColumns}
+use Rattle.offsets.specs.declared.Column.{Column}
+use Rattle.offsets.specs.declared.Column.the-variants.{At, Unknown}
+use Rattle.lexer.specs.Token.{QueryWord, anyColumn, onlyColumn, bare, written, Token, lparen, rparen, AND, OR, NOT, NEAR, operand, kindOf, begins, tokenNodes, maxQuery, maxWords, padded, nodeMap, packed}
+use Rattle.lexer.specs.Tokens.{openByte, closeByte, quoteByte, starByte, colonByte, isSpace, isRunByte, isInner, each, bytesAND, bytesOR, bytesNOT, bytesNEAR, bytesNEARSlash, decimal, Tokens}
+use Rattle.lexer.specs.declared.Lexed.{Lexed}
+
+-- ---- the bounds
+
+-- the lengths of all words, every repetition counted
+abbrev pub wordSizes : List Token → List ℕ
+wordSizes ts = nodeMap (λ n. length (n .word .bytes)) (tokenNodes begins ts)
+
+-- at most 16 words in all, each of at most 64 bytes
+pub record Within (ts : List Token) : Type 0 where
+  pub few : length (wordSizes ts) ≤ maxWords
+  pub short : (i : ℕ) → i < length (wordSizes ts) → getD (wordSizes ts) i 0 ≤ maxWord
+
+-- `ts` are the tokens of `s`, and the bounds on a query's bytes and words are kept
+pub record QueryTokens (names : List (List ℕ)) (s : List ℕ) (ts : List Token) : Type 0 where
+  pub reads : Tokens names s ts
+  pub size : length s ≤ maxQuery
+  pub words : Within ts
+
+-- ---- the answer
+
+abbrev pub kindsOf : List Token → List ℕ
+kindsOf ts = map kindOf ts
+
+-- for the tokens of a query
+abbrev pub lexed : List Token → Lexed
+lexed ts = record { ok = true; kinds = padded maxQuery (kindsOf ts); count = length ts; words = packed (tokenNodes begins ts) }
+
+-- for any other bytes
+abbrev pub refusal : Lexed
+refusal = record { ok = false; kinds = replicate maxQuery 0; count = 0; words = packed [] }
+
+-- what an answer is: accepted exactly for a query, with the query's tokens; else the refusal
+pub record Lexes (names : List (List ℕ)) (s : List ℕ) (r : Lexed) : Type 0 where
+  pub accepted : (r .ok ≡ true) ↔ ((ts : List Token) × QueryTokens names s ts)
+  pub content : (ts : List Token) → QueryTokens names s ts → r ≡ lexed ts
+  pub otherwise : r .ok ≡ false → r ≡ refusal
+
+-- ---- how the next token is found
+
+-- what stands at the front of the bytes that are left
+pub data Next : Type 0 where
+  -- nothing is left
+  done : Next
+  -- a byte of white space
+  blank : Next
+  -- a token, and how many bytes it takes
+  token : Token → ℕ → Next
+  -- no token
+  wrong : Next
+
+-- the word at a place of a phrase's bytes
+abbrev pub wordIn : List ℕ → Place → QueryWord
+wordIn s p = record { bytes = wordAt s p; star = eqb (getD s (p .end) 0) starByte }
+
+abbrev pub phraseWords : List ℕ → List QueryWord
+phraseWords s = map (wordIn s) (places s)
+
+-- the operand whose words are those of `text`
+abbrev pub phraseOf : List ℕ → ℕ → Token
+phraseOf text columns = operand (record { words = phraseWords text; columns = columns })
+
+-- whether bytes are one or more word bytes with an optional `*` behind them
+unfoldable pub isStem : List ℕ → Bool
+isStem r =
+    both (ltb 0 (span isWord r))
+    (either (eqb (length r) (span isWord r)) (both (eqb (length r) (span isWord r + 1)) (eqb (getD r (span isWord r) 0) starByte)))
+
+-- whether a run is `NEAR/` with one to four digits
+unfoldable pub isNearWritten : List ℕ → Bool
+isNearWritten r = both (within 6 9 (length r)) (both (same (take 5 r) bytesNEARSlash) (each isDigit (drop 5 r)))
+
+-- a run behind a column's name and `:`
+abbrev pub inColumn : Column → List ℕ → ℕ → Next
+inColumn (At c) text size = pick (ltb c maxColumns) (token (phraseOf text (onlyColumn c)) size) wrong
+inColumn Unknown text size = wrong
+
+unfoldable pub columnRun : List (List ℕ) → List ℕ → Next
+columnRun names r =
+    pick (both (ltb 0 (span isNameByte r)) (eqb (getD r (span isNameByte r) 0) colonByte))
+    (pick (isStem (drop (span isNameByte r + 1) r))
+    (inColumn (columnOf names (take (span isNameByte r) r)) (drop (span isNameByte r + 1) r) (length r))
+    wrong)
+    wrong
+
+-- the operator that a run is, or none
+pub data Operator : Type 0 where
+  operator : Token → Operator
+  no-operator : Operator
+
+unfoldable pub operatorOf : List ℕ → Operator
+operatorOf r =
+    pick (same r bytesAND) (operator AND)
+    (pick (same r bytesOR) (operator OR)
+    (pick (same r bytesNOT) (operator NOT)
+    (pick (same r bytesNEAR) (operator (NEAR bare))
+    (pick (isNearWritten r) (operator (NEAR (written (decimal (drop 5 r))))) no-operator))))
+
+-- any other run
+unfoldable pub wordNext : List (List ℕ) → List ℕ → Next
+wordNext names r = pick (isStem r) (token (phraseOf r anyColumn) (length r)) (columnRun names r)
+
+abbrev pub operatorOr : Operator → ℕ → Next → Next
+operatorOr (operator t) size other = token t size
+operatorOr no-operator size other = other
+
+unfoldable pub runNext : List (List ℕ) → List ℕ → Next
+runNext names r = operatorOr (operatorOf r) (length r) (wordNext names r)
+
+-- `s` stands behind the opening quote
+unfoldable pub quoteNext : List ℕ → Next
+quoteNext s =
+    pick (ltb (span isInner s) (length s))
+    (pick (ltb 0 (length (places (take (span isInner s) s))))
+    (token (phraseOf (take (span isInner s) s) anyColumn) (span isInner s + 2))
+    wrong)
+    wrong
+
+unfoldable pub nextOf : List (List ℕ) → List ℕ → Next
+nextOf names [] = done
+nextOf names (b ∷ s) =
+    pick (isSpace b) blank
+    (pick (eqb b openByte) (token lparen 1)
+    (pick (eqb b closeByte) (token rparen 1)
+    (pick (eqb b quoteByte) (quoteNext s)
+    (runNext names (take (span isRunByte (b ∷ s)) (b ∷ s))))))
+
+-- ---- all tokens
+
+pub data Lexing : Type 0 where
+  tokens : List Token → Lexing
+  refused : Lexing
+
+abbrev pub prepend : Token → Lexing → Lexing
+prepend t (tokens ts) = tokens (t ∷ ts)
+prepend t refused = refused
+
+-- go on behind what stands at the front, `rest n` being what comes after n bytes
+abbrev pub andThen : Next → (ℕ → Lexing) → Lexing
+andThen done rest = tokens []
+andThen blank rest = rest 1
+andThen (token t n) rest = prepend t (rest n)
+andThen wrong rest = refused
+
+-- with at most `steps` steps
+unfoldable pub lexIn : ℕ → List (List ℕ) → List ℕ → Lexing
+lexIn zero names s = refused
+lexIn (suc steps) names s = andThen (nextOf names s) (λ n. lexIn steps names (drop n s))
+
+abbrev pub lexOf : List (List ℕ) → List ℕ → Lexing
+lexOf names s = lexIn (suc (length s)) names s
+
+-- ---- the answer, as the code finds it
+
+-- whether the bounds on words are kept
+abbrev pub isWithin : List Token → Bool
+isWithin ts = both (leb (length (wordSizes ts)) maxWords) (each (λ n. leb n maxWord) (wordSizes ts))
+
+abbrev pub answer : Lexing → Lexed
+answer (tokens ts) = pick (isWithin ts) (lexed ts) refusal
+answer refused = refusal
+
+abbrev pub lexedOf : List (List ℕ) → List ℕ → Lexed
+lexedOf names s = pick (leb (length s) maxQuery) (answer (lexOf names s)) refusal

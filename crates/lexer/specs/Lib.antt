@@ -1,0 +1,4 @@
+pub mod Token
+pub mod Tokens
+pub mod Lexing
+pub mod Filling

@@ -1,0 +1,12 @@
+pub mod General
+pub mod Front
+pub mod Sound
+pub mod Complete
+pub mod Nodes
+pub mod Bounds
+pub mod Places
+pub mod Codes
+pub mod Steps
+pub mod Whole
+pub mod Accepting
+pub mod Examples

@@ -1,0 +1,13 @@
+-- `query::refused` meets its contract.
+use borrow.Author.Needs.{needs}
+use Rattle.query.proofs.refused.Statement.{statement}
+use Rattle.query.proofs.refused.Tie as tie
+
+no-ops-requires : tie.Need-no-ops-requires
+no-ops-requires c κs = search needs
+
+returns : tie.Need-returns
+returns c = rw (c .no-ops .ensures)
+
+pub refused-spec : {M : Type 1} → statement M
+refused-spec = tie.close (tie.spec no-ops-requires returns)
