@@ -1,0 +1,10 @@
+pub mod General
+pub mod Order
+pub mod Distinct
+pub mod Places
+pub mod Weight
+pub mod Terms
+pub mod Keyed
+pub mod Only
+pub mod Size
+pub mod Examples

@@ -1,0 +1,14 @@
+pub mod General
+pub mod WordLaws
+pub mod Inserting
+pub mod Gathering
+pub mod Writing
+pub mod Lists
+pub mod TermLaws
+pub mod Answering
+pub mod RowWords
+pub mod RowLists
+pub mod Sorting
+pub mod LeafLaw
+pub mod LeafWriting
+pub mod Rules

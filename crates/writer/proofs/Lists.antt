@@ -1,0 +1,89 @@
+-- The bytes of a posting list, row by row.
+use Prim.Native.Nat.{ℕ, zero, suc, _+_, _-_, _*_, _^_, _≤_, _<_}
+use native.Mathlib.Numerals.{add-one}
+use native.Mathlib.Omega.{arith}
+use mathlib.Core.Path.{_≡_, refl, sym, ap, subst, _∙_}
+use mathlib.Core.List.{List, [], _∷_, _++_, append-assoc, append-nil}
+use lib.ListN.{length, getD, drop, length-append, drop-of-length-le}
+use lib.Seq.{drop-cons}
+use lib.Dec.{eqb}
+use borrow.Author.Tests.{eq-eqb, ne-eqb}
+use Rattle.common.proofs.Cases.{pick-case}
+use Rattle.varint.specs.Varint.{encode}
+use Rattle.varint.proofs.Laws.{encode-most}
+use Rattle.doclist.specs.Doclist.{encodeAll}
+use Rattle.doclist.proofs.Numbers.{all-append}
+use Rattle.document.proofs.Size.{all-length}
+use Rattle.writer.specs.Rows.{columnOf, positionOf, keyOf}
+use Rattle.writer.specs.Stored.{rowNumbers, numbersFrom, listBytes, Rises}
+
+-- ---- a row
+
+module _ (last row column position : ℕ) (c : column ≡ columnOf row) (p : position ≡ positionOf row) where
+  pub row-same : (opened before : ℕ) → opened ≡ columnOf last → before ≡ positionOf last → column ≡ opened
+      → encodeAll (rowNumbers last row) ≡ encode (position - before + 2)
+  row-same opened before o b e =
+      let t = eq-eqb (columnOf row) (columnOf last) (sym c ∙ e ∙ o) in
+      rw t (append-nil (encode (positionOf row - positionOf last + 2)) ∙ sym (ap (λ n. encode (n - before + 2)) p ∙ ap (λ n. encode (positionOf row - n + 2)) b))
+
+  pub row-other : (opened : ℕ) → opened ≡ columnOf last → (column ≡ opened → ⊥)
+      → encodeAll (rowNumbers last row) ≡ (encode 1 ++ encode column) ++ encode (position + 2)
+  row-other opened o n =
+      let t = ne-eqb (columnOf row) (columnOf last) (λ e. n (c ∙ e ∙ sym o)) in
+      rw t
+      (ap (λ l. encode 1 ++ (encode (columnOf row) ++ l)) (append-nil (encode (positionOf row + 2)))
+      ∙ sym (append-assoc (encode 1) (encode (columnOf row)) (encode (positionOf row + 2)))
+      ∙ sym (ap (λ n. (encode 1 ++ encode n) ++ encode (position + 2)) c ∙ ap (λ n. (encode 1 ++ encode (columnOf row)) ++ encode (n + 2)) p))
+
+  pub row-other-length : (opened : ℕ) → opened ≡ columnOf last → (column ≡ opened → ⊥)
+      → length (encodeAll (rowNumbers last row)) ≡ length (encode 1) + length (encode column) + length (encode (position + 2))
+  row-other-length opened o n =
+      omega (arith, ap length (row-other opened o n), length-append (encode 1 ++ encode column) (encode (position + 2)), length-append (encode 1) (encode column))
+
+row-most : (last row : ℕ) → length (encodeAll (rowNumbers last row)) ≤ 27
+row-most last row =
+    pick-case (λ vs. length (encodeAll vs) ≤ 27) (eqb (columnOf row) (columnOf last)) ((positionOf row - positionOf last + 2) ∷ []) (1 ∷ columnOf row ∷ (positionOf row + 2) ∷ [])
+    (λ _. omega (arith, length-append (encode (positionOf row - positionOf last + 2)) [], encode-most 9 (positionOf row - positionOf last + 2)))
+    (λ _. omega (
+      arith,
+      length-append (encode 1) (encode (columnOf row) ++ (encode (positionOf row + 2) ++ [])),
+      length-append (encode (columnOf row)) (encode (positionOf row + 2) ++ []),
+      length-append (encode (positionOf row + 2)) [],
+      encode-most 9 1,
+      encode-most 9 (columnOf row),
+      encode-most 9 (positionOf row + 2),
+    ))
+
+-- ---- rows
+
+numbers-most : (last : ℕ) (rows : List ℕ) → length (encodeAll (numbersFrom last rows)) ≤ 9 + 27 * length rows
+numbers-most last [] = omega (arith, length-append (encode 0) [], encode-most 9 0)
+numbers-most last (r ∷ rows) = omega (arith, all-length (rowNumbers last r) (numbersFrom r rows), row-most last r, numbers-most r rows)
+
+pub list-most : (docid : ℕ) (rows : List ℕ) → length (listBytes docid rows) ≤ 18 + 27 * length rows
+list-most docid rows = omega (arith, length-append (encode docid) (encodeAll (numbersFrom 0 rows)), encode-most 9 docid, numbers-most 0 rows)
+
+module _ (last : ℕ) (rows : List ℕ) (i : ℕ) where
+  pub rises-end : length rows ≤ i → encodeAll (numbersFrom last (drop i rows)) ≡ encode 0
+  rises-end h = ap (λ l. encodeAll (numbersFrom last l)) (drop-of-length-le rows h) ∙ append-nil (encode 0)
+
+  module _ (h : i < length rows) where
+    rises-cons : Rises last (drop i rows) → Rises last (getD rows i 0 ∷ drop (suc i) rows)
+    rises-cons r = subst (Rises last) (drop-cons rows i 0 h) r
+
+    pub rises-here : Rises last (drop i rows) → keyOf last ≤ keyOf (getD rows i 0)
+    rises-here r = rises-cons r .0
+
+    pub rises-next : Rises last (drop i rows) → Rises (getD rows i 0) (drop (i + 1) rows)
+    rises-next r = rw add-one (rises-cons r .1)
+
+    pub numbers-next : encodeAll (numbersFrom last (drop i rows)) ≡ encodeAll (rowNumbers last (getD rows i 0)) ++ encodeAll (numbersFrom (getD rows i 0) (drop (i + 1) rows))
+    numbers-next =
+        ap (λ l. encodeAll (numbersFrom last l)) (drop-cons rows i 0 h)
+        ∙ all-append (rowNumbers last (getD rows i 0)) (numbersFrom (getD rows i 0) (drop (suc i) rows))
+        ∙ ap (λ j. encodeAll (rowNumbers last (getD rows i 0)) ++ encodeAll (numbersFrom (getD rows i 0) (drop j rows))) (sym (add-one i))
+
+    pub numbers-next-length : length (encodeAll (numbersFrom last (drop i rows)))
+        ≡ length (encodeAll (rowNumbers last (getD rows i 0))) + length (encodeAll (numbersFrom (getD rows i 0) (drop (i + 1) rows)))
+    numbers-next-length =
+        ap length numbers-next ∙ length-append (encodeAll (rowNumbers last (getD rows i 0))) (encodeAll (numbersFrom (getD rows i 0) (drop (i + 1) rows)))

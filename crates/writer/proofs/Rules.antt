@@ -1,0 +1,250 @@
+-- The tests of the writer say document 01's rules, and so do its answers (`answers`).
+use Prim.Native.Nat.{ℕ, zero, suc, _^_, _≤_, _<_}
+use native.Mathlib.Nat.{not-suc-le-zero, le-of-suc-le-suc}
+use native.Mathlib.Omega.{arith}
+use lib.IntN.{ℤ, pos, negsuc, natAbs}
+use lib.Signed.{nonNeg}
+use mir.Val.{SFits}
+use mir.Syntax.{w64}
+use mathlib.Core.Path.{_≡_, refl, sym, ap, subst, _∙_}
+use mathlib.Core.Logic.{_↔_}
+use mathlib.Core.Bool.{Bool, true, false}
+use mathlib.Core.List.{List, [], _∷_}
+use lib.ListN.{length, getD, replicate}
+use lib.Dec.{T, ltb, leb}
+use borrow.Author.Tests.{ltb-true, ltb-false, leb-true, leb-false, lt-ltb, le-ltb, le-leb}
+use Rattle.common.specs.Pick.{pick, both, either}
+use Rattle.common.specs.Bytes.{within}
+use Rattle.common.proofs.Cases.{bool-case, pick-case, both-left, both-right, both-true, false-not-true}
+use Rattle.tokenizer.specs.Word.{wordsOf, maxWord}
+use Rattle.offsets.specs.Cut.{cuts, Cuts, cut}
+use Rattle.offsets.proofs.Cuts.{cuts-rules, rules-cuts, length-cut}
+use Rattle.document.specs.Document.{StandsAt, documentLeaf}
+use Rattle.writer.specs.declared.Answer.{Answer}
+use Rattle.writer.specs.declared.Answer.the-variants.{Written, Shape, Overlong, Room}
+use Rattle.writer.specs.Answers.{number, beside, isDocid, docidOf, isDocument, DocumentShape, hasOverlong, firstOverlong, IsOverlong, AllShort, Writing, fitted, answerOf, held, roomOf, Answers}
+use Rattle.writer.proofs.LeafWriting.{short-before}
+
+-- ---- the shape
+
+docid-told : (docid : ℤ) → isDocid docid ≡ true → docid ≡ pos (docidOf docid)
+docid-told (pos d) t = refl
+docid-told (negsuc d) t = false-not-true t
+
+told-docid : (docid : ℤ) → docid ≡ pos (docidOf docid) → isDocid docid ≡ true
+told-docid docid e = ap isDocid e
+
+pub shape-docid : (docid : ℤ) (s es : List ℕ) → isDocument docid s es ≡ true → isDocid docid ≡ true
+shape-docid docid s es t = both-left (isDocid docid) (both (within 1 16 (length es)) (both (leb (length s) 4096) (cuts s es))) t
+
+pub shape-rules : (docid : ℤ) (s es : List ℕ) → isDocument docid s es ≡ true → DocumentShape docid s es
+shape-rules docid s es t =
+    let a = both-right (isDocid docid) (both (within 1 16 (length es)) (both (leb (length s) 4096) (cuts s es))) t in
+    let w = both-left (within 1 16 (length es)) (both (leb (length s) 4096) (cuts s es)) a in
+    let b = both-right (within 1 16 (length es)) (both (leb (length s) 4096) (cuts s es)) a in
+    record {
+      docid-range = docid-told docid (shape-docid docid s es t);
+      ends = cuts-rules s es (both-right (leb (length s) 4096) (cuts s es) b);
+      some = leb-true 1 (length es) (both-left (leb 1 (length es)) (leb (length es) 16) w);
+      few = leb-true (length es) 16 (both-right (leb 1 (length es)) (leb (length es) 16) w);
+      size = leb-true (length s) 4096 (both-left (leb (length s) 4096) (cuts s es) b);
+    }
+
+pub rules-shape : (docid : ℤ) (s es : List ℕ) → DocumentShape docid s es → isDocument docid s es ≡ true
+rules-shape docid s es h =
+    both-true (isDocid docid) (both (within 1 16 (length es)) (both (leb (length s) 4096) (cuts s es))) (told-docid docid (h .docid-range))
+    (both-true (within 1 16 (length es)) (both (leb (length s) 4096) (cuts s es))
+    (both-true (leb 1 (length es)) (leb (length es) 16) (le-leb 1 (length es) (h .some)) (le-leb (length es) 16 (h .few)))
+    (both-true (leb (length s) 4096) (cuts s es) (le-leb (length s) 4096 (h .size)) (rules-cuts s es (h .ends))))
+
+-- ---- words over 64 bytes
+
+has-word : (ws : List (List ℕ)) → hasOverlong ws ≡ true → (p : ℕ) × (p < length ws) × (maxWord < length (getD ws p []))
+has-word [] t = false-not-true t
+has-word (w ∷ ws) t =
+    bool-case (ltb maxWord (length w))
+    (λ b. (0, omega arith, ltb-true maxWord (length w) b))
+    (λ b. let r = has-word ws (subst (λ x. either x (hasOverlong ws) ≡ true) b t) in (suc (r .0), omega (arith, r .1), r .2))
+
+none-short : (ws : List (List ℕ)) → hasOverlong ws ≡ false → (p : ℕ) → p < length ws → length (getD ws p []) ≤ maxWord
+none-short [] t p h = absurd (not-suc-le-zero h)
+none-short (w ∷ ws) t p h =
+    bool-case (ltb maxWord (length w))
+    (λ b. false-not-true (sym (subst (λ x. either x (hasOverlong ws) ≡ false) b t)))
+    (λ b. go b p h (none-short ws (subst (λ x. either x (hasOverlong ws) ≡ false) b t)))
+  where
+    go : ltb maxWord (length w) ≡ false → (p : ℕ) → p < suc (length ws) → ((q : ℕ) → q < length ws → length (getD ws q []) ≤ maxWord) → length (getD (w ∷ ws) p []) ≤ maxWord
+    go b zero h f = ltb-false maxWord (length w) b
+    go b (suc p) h f = f p (le-of-suc-le-suc h)
+
+short-none : (ws : List (List ℕ)) → ((p : ℕ) → p < length ws → length (getD ws p []) ≤ maxWord) → hasOverlong ws ≡ false
+short-none ws f = bool-case (hasOverlong ws) (λ t. let r = has-word ws t in absurd (omega (arith, f (r .0) (r .1), r .2))) (λ t. t)
+
+word-has : (ws : List (List ℕ)) (p : ℕ) → p < length ws → maxWord < length (getD ws p []) → hasOverlong ws ≡ true
+word-has ws p h l = bool-case (hasOverlong ws) (λ t. t) (λ t. absurd (omega (arith, none-short ws t p h, l)))
+
+pub first-most : (ts : List (List ℕ)) → firstOverlong ts ≤ length ts
+first-most [] = omega arith
+first-most (t ∷ ts) = let h = first-most ts in pick-case (λ n. n ≤ suc (length ts)) (hasOverlong (wordsOf t)) 0 (suc (firstOverlong ts)) (λ _. omega arith) (λ _. omega arith)
+
+-- the first column has one
+first-has : (ts : List (List ℕ)) → firstOverlong ts < length ts → hasOverlong (wordsOf (getD ts (firstOverlong ts) [])) ≡ true
+first-has [] h = absurd (not-suc-le-zero h)
+first-has (t ∷ ts) h =
+    bool-case (hasOverlong (wordsOf t))
+    (λ b. rw b b)
+    (λ b. rw b (first-has ts (le-of-suc-le-suc (subst (λ x. suc (pick x 0 (suc (firstOverlong ts))) ≤ suc (length ts)) b h))))
+
+-- a column that has one, with none before it, is the first
+first-is : (ts : List (List ℕ)) (c : ℕ) → c < length ts → hasOverlong (wordsOf (getD ts c [])) ≡ true → ((b : ℕ) → b < c → hasOverlong (wordsOf (getD ts b [])) ≡ false) → firstOverlong ts ≡ c
+first-is [] c h t f = absurd (not-suc-le-zero h)
+first-is (u ∷ ts) zero h t f = rw t refl
+first-is (u ∷ ts) (suc c) h t f = rw (f 0 (omega arith)) (ap suc (first-is ts c (le-of-suc-le-suc h) t (λ b k. f (suc b) (omega arith))))
+
+pub overlong-is : (ts : List (List ℕ)) → firstOverlong ts < length ts → IsOverlong ts (firstOverlong ts)
+overlong-is ts h =
+    let r = has-word (wordsOf (getD ts (firstOverlong ts) [])) (first-has ts h) in
+    record {
+      word = getD (wordsOf (getD ts (firstOverlong ts) [])) (r .0) [];
+      position = r .0;
+      stands = record { column = h; position = r .1; word = refl };
+      long = r .2;
+      first = λ w b p l st. subst (λ x. length x ≤ maxWord) (st .word) (none-short (wordsOf (getD ts b [])) (short-before ts b l) p (st .position));
+    }
+
+pub is-overlong : (ts : List (List ℕ)) (c : ℕ) → IsOverlong ts c → (firstOverlong ts ≡ c) × (c < length ts)
+is-overlong ts c o = (
+  first-is ts c (o .stands .column)
+      (word-has (wordsOf (getD ts c [])) (o .position) (o .stands .position) (subst (λ x. maxWord < length x) (sym (o .stands .word)) (o .long)))
+      (λ b l. short-none (wordsOf (getD ts b [])) (λ p k. o .first (getD (wordsOf (getD ts b [])) p []) b p l (record { column = less b l; position = k; word = refl }))),
+  o .stands .column,
+)
+  where
+    less : (b : ℕ) → b < c → b < length ts
+    less b l = omega (arith, o .stands .column)
+
+pub short-all : (ts : List (List ℕ)) → firstOverlong ts ≡ length ts → AllShort ts
+short-all ts e w c p st =
+    subst (λ x. length x ≤ maxWord) (st .word) (none-short (wordsOf (getD ts c [])) (short-before ts c (omega (arith, st .column))) p (st .position))
+
+pub all-short : (ts : List (List ℕ)) → AllShort ts → firstOverlong ts ≡ length ts
+all-short ts f =
+    bool-case (ltb (firstOverlong ts) (length ts))
+    (λ t. let o = overlong-is ts (ltb-true (firstOverlong ts) (length ts) t) in absurd (omega (arith, o .long, f (o .word) (firstOverlong ts) (o .position) (o .stands))))
+    (λ t. omega (arith, ltb-false (firstOverlong ts) (length ts) t, first-most ts))
+
+-- ---- the answers
+
+module _ (docid : ℤ) (s es : List ℕ) (room : ℕ) where
+  answers-shape : (DocumentShape docid s es → ⊥) → Answers docid s es room Shape
+  answers-shape n = record {
+    shape = (λ e. n, λ _. refl);
+    overlong = λ c. (λ e. absurd (omega (arith, ap number e)), λ k. absurd (n (k .0)));
+    no-room = λ m. (λ e. absurd (omega (arith, ap number e)), λ k. absurd (n (k .0)));
+    written = λ m. (λ e. absurd (omega (arith, ap number e)), λ k. absurd (n (k .0)));
+  }
+
+  module _ (h : DocumentShape docid s es) where
+    answers-overlong : firstOverlong (cut s es) < length (cut s es) → Answers docid s es room (Overlong (firstOverlong (cut s es)))
+    answers-overlong l = record {
+      shape = (λ e. absurd (omega (arith, ap number e)), λ n. absurd (n h));
+      overlong = λ c. (
+        λ e. (h, subst (IsOverlong (cut s es)) (ap beside e) (overlong-is (cut s es) l)),
+        λ k. ap Overlong (is-overlong (cut s es) c (k .1) .0),
+      );
+      no-room = λ m. (λ e. absurd (omega (arith, ap number e)), λ k. absurd (omega (arith, l, all-short (cut s es) (k .1))));
+      written = λ m. (λ e. absurd (omega (arith, ap number e)), λ k. absurd (omega (arith, l, all-short (cut s es) (k .1))));
+    }
+
+    module _ (a : firstOverlong (cut s es) ≡ length (cut s es)) where
+      not-overlong : (c : ℕ) → IsOverlong (cut s es) c → ⊥
+      not-overlong c o = let k = is-overlong (cut s es) c o in omega (arith, k .0, k .1)
+
+      answers-room : room < length (documentLeaf (docidOf docid) (cut s es)) → Answers docid s es room (Room (length (documentLeaf (docidOf docid) (cut s es))))
+      answers-room l = record {
+        shape = (λ e. absurd (omega (arith, ap number e)), λ n. absurd (n h));
+        overlong = λ c. (λ e. absurd (omega (arith, ap number e)), λ k. absurd (not-overlong c (k .1)));
+        no-room = λ m. (λ e. (h, short-all (cut s es) a, sym (ap beside e), omega (arith, ap beside e)), λ k. ap Room (sym (k .2)));
+        written = λ m. (λ e. absurd (omega (arith, ap number e)), λ k. absurd (omega (arith, k .2, k .3)));
+      }
+
+      answers-written : length (documentLeaf (docidOf docid) (cut s es)) ≤ room → Answers docid s es room (Written (length (documentLeaf (docidOf docid) (cut s es))))
+      answers-written l = record {
+        shape = (λ e. absurd (omega (arith, ap number e)), λ n. absurd (n h));
+        overlong = λ c. (λ e. absurd (omega (arith, ap number e)), λ k. absurd (not-overlong c (k .1)));
+        no-room = λ m. (λ e. absurd (omega (arith, ap number e)), λ k. absurd (omega (arith, k .2, k .3)));
+        written = λ m. (λ e. (h, short-all (cut s es) a, sym (ap beside e), omega (arith, ap beside e)), λ k. ap Written (sym (k .2)));
+      }
+
+  -- the answer says which rule holds
+  pub answers : Answers docid s es room (answerOf docid s es room)
+  answers =
+      let n = length-cut s es in
+      bool-case (isDocument docid s es)
+      (λ t. let h = shape-rules docid s es t in
+      bool-case (ltb (firstOverlong (cut s es)) (length es))
+      (λ u. rw (t, u) (answers-overlong h (omega (arith, ltb-true (firstOverlong (cut s es)) (length es) u))))
+      (λ u. let a : firstOverlong (cut s es) ≡ length (cut s es) = omega (arith, ltb-false (firstOverlong (cut s es)) (length es) u, first-most (cut s es)) in
+      bool-case (leb (length (documentLeaf (docidOf docid) (cut s es))) room)
+      (λ v. rw (t, u, v) (answers-written h a (leb-true (length (documentLeaf (docidOf docid) (cut s es))) room v)))
+      (λ v. rw (t, u, v) (answers-room h a (leb-false (length (documentLeaf (docidOf docid) (cut s es))) room v)))))
+      (λ t. rw t (answers-shape (λ h. false-not-true (sym t ∙ rules-shape docid s es h))))
+
+-- ---- what the function returns
+
+-- the docid, as the code hands it on
+pub docid-cast : (docid z : ℤ) → z ≡ docid → isDocid docid ≡ true → natAbs z ≡ docidOf docid
+docid-cast docid z e t = ap natAbs e ∙ go docid t
+  where
+    go : (d : ℤ) → isDocid d ≡ true → natAbs d ≡ docidOf d
+    go (pos d) t = refl
+    go (negsuc d) t = false-not-true t
+
+pub docid-not-negative : (docid z : ℤ) → z ≡ docid → isDocid docid ≡ true → T (nonNeg z)
+docid-not-negative docid z e t = subst (λ x. T (nonNeg x)) (sym e) (go docid t)
+  where
+    go : (d : ℤ) → isDocid d ≡ true → T (nonNeg d)
+    go (pos d) t = tt
+    go (negsuc d) t = false-not-true t
+
+docid-small : (docid : ℤ) → SFits w64 docid → docidOf docid < 2 ^ 63
+docid-small (pos d) f = f .sfits
+docid-small (negsuc d) f = omega arith
+
+module _ (docid : ℤ) (s es : List ℕ) (size : ℕ) where
+  -- what the contract asks of an answer and of the room
+  abbrev Told : Answer → List ℕ → Type 0
+  Told r after = (r ≡ answerOf docid s es size) × ((after ≡ roomOf docid s es size) × Answers docid s es size r)
+
+  told : (r : Answer) (after : List ℕ) → r ≡ answerOf docid s es size → after ≡ held size (documentLeaf (docidOf docid) (cut s es)) r → Told r after
+  told r after e q = (e, (q ∙ ap (held size (documentLeaf (docidOf docid) (cut s es))) e, subst (Answers docid s es size) (sym e) (answers docid s es size)))
+
+  pub told-shape : isDocument docid s es ≡ false → (after : List ℕ) → after ≡ replicate size 0 → Told Shape after
+  told-shape t after z = told Shape after (rw t refl) z
+
+  module _ (t : isDocument docid s es ≡ true) (n : ℕ) (e : n ≡ firstOverlong (cut s es)) where
+    pub told-overlong : n < length es → (after : List ℕ) → after ≡ replicate size 0 → Told (Overlong n) after
+    told-overlong h after z = told (Overlong n) after (rw (t, lt-ltb (firstOverlong (cut s es)) (length es) (omega arith)) (ap Overlong e)) z
+
+    module _ (h : length es ≤ n) where
+      pub writing : SFits w64 docid → (d : ℕ) → d ≡ docidOf docid → Writing d s es
+      writing f d q =
+          let k = shape-rules docid s es t in
+          record {
+            docid-range = subst (λ x. x < 2 ^ 63) (sym q) (docid-small docid f);
+            ends = k .ends;
+            some = k .some;
+            few = k .few;
+            size = k .size;
+            short = omega (arith, first-most (cut s es), length-cut s es);
+          }
+
+      pub told-leaf : (d : ℕ) → d ≡ docidOf docid → (m : ℕ) → m ≡ size → (r : Answer) (after : List ℕ)
+          → (r ≡ fitted (length (documentLeaf d (cut s es))) m) × (after ≡ held m (documentLeaf d (cut s es)) r) → Told r after
+      told-leaf d q m k r after w =
+          told r after
+          (w .0
+          ∙ ap (λ x. fitted (length (documentLeaf x (cut s es))) m) q
+          ∙ ap (fitted (length (documentLeaf (docidOf docid) (cut s es)))) k
+          ∙ sym (rw (t, le-ltb (firstOverlong (cut s es)) (length es) (omega arith)) refl))
+          (w .1 ∙ ap (λ x. held m (documentLeaf x (cut s es)) r) q ∙ ap (λ x. held x (documentLeaf (docidOf docid) (cut s es)) r) k)

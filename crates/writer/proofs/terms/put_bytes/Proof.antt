@@ -1,0 +1,63 @@
+-- `put_bytes` meets its contract. The loop's invariant: the bytes passed stand at the front. The measure is what is left
+-- of them.
+use Prim.Native.Nat.{_-_}
+use native.Mathlib.Omega.{arith}
+use mathlib.Core.Path.{_≡_, ap, _∙_}
+use lib.ListN.{length, getD, take, set}
+use lib.Seq.{take-all}
+use Rattle.common.specs.Bytes.{over}
+use Rattle.writer.proofs.General.{over-take}
+use borrow.Author.Needs.{needs}
+use Rattle.writer.proofs.terms.put_bytes.Statement.{statement}
+use Rattle.writer.proofs.terms.put_bytes.Tie as tie
+
+abbrev Inv-loop : tie.InvT-loop
+Inv-loop out₀ bytes i₀ out i = (length out ≡ length out₀) × (out ≡ over (take i bytes) out₀)
+
+abbrev μ-loop : tie.MeasureT-loop
+μ-loop out₀ bytes i₀ out i = length bytes - i
+
+loop-holds : tie.Need-loop-holds Inv-loop μ-loop
+loop-holds c = search needs
+
+shared-slice-read-out : tie.Need-shared-slice-read-out Inv-loop μ-loop
+shared-slice-read-out c = search needs
+
+slice-write-out : tie.Need-slice-write-out Inv-loop μ-loop
+slice-write-out c = search needs
+
+add-i : tie.Need-add-i Inv-loop μ-loop
+add-i c = search needs
+
+loop-less : tie.Need-loop-less Inv-loop μ-loop
+loop-less c = search needs
+
+loop-again : tie.Need-loop-again Inv-loop μ-loop
+loop-again c =
+    let l = c .before .before .loop in
+    let a = c .before .before .before .args in
+    (search needs, ap (λ t. set t (l .i) (getD (a .bytes .now) (l .i) 0)) (l .inv .1) ∙ over-take (a .bytes .now) (a .out .now) (l .i) (omega arith) (omega arith))
+
+same-length : tie.Need-same-length Inv-loop μ-loop
+same-length c = search needs
+
+returns : tie.Need-returns Inv-loop μ-loop
+returns c =
+    let l = c .before .loop in
+    let a = c .before .before .args in
+    l .inv .1 ∙ ap (λ t. over t (a .out .now)) (take-all (l .i) (a .bytes .now) (c .loop-test .left))
+
+pub put-bytes-spec : {M : Type 1} → statement M
+put-bytes-spec =
+    tie.close
+    (tie.spec
+    Inv-loop
+    μ-loop
+    loop-holds
+    shared-slice-read-out
+    slice-write-out
+    add-i
+    loop-less
+    loop-again
+    same-length
+    returns)
