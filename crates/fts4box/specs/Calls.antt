@@ -2,6 +2,7 @@
 -- lookup, where the part stands. What the answer claims is said by the crates below.
 use Prim.Native.Nat.{ℕ}
 use lib.IntN.{ℤ}
+use lib.ListN.{length}
 use mathlib.Core.Path.{_≡_}
 use mathlib.Core.Logic.{_↔_}
 use mathlib.Core.List.{List}
@@ -15,6 +16,8 @@ use Rattle.lookup.specs.declared.WordAnswer.{WordAnswer}
 use Rattle.lookup.specs.declared.WordAnswer.the-variants as word
 use Rattle.lookup.specs.declared.EntryAnswer.{EntryAnswer}
 use Rattle.lookup.specs.declared.EntryAnswer.the-variants as entry
+use Rattle.writer.specs.Answers as writer
+use Rattle.writer.specs.declared.Answer.{Answer}
 
 -- checking one leaf: the number beside every answer is 0
 pub record Checked (columns : ℕ) (leaf : List ℕ) (number second : ℕ) : Type 0 where
@@ -62,3 +65,12 @@ pub record Decided (columns : ℕ) (newer older wanted : List ℕ) (docid : ℤ)
   pub second-is : second ≡ entryBeside answer
   pub leaf-is : leaf ≡ entryLeaf answer
   pub start-is : start ≡ entryStart answer
+
+-- writing the leaf for one document into a room that was `before` and is `after`
+pub record Written (docid : ℤ) (texts ends before after : List ℕ) (number second : ℕ) : Type 0 where
+  pub answer : Answer
+  pub right : writer.Answers docid texts ends (length before) answer
+  pub answer-is : answer ≡ writer.answerOf docid texts ends (length before)
+  pub room-is : after ≡ writer.roomOf docid texts ends (length before)
+  pub number-is : number ≡ writer.number answer
+  pub second-is : second ≡ writer.beside answer

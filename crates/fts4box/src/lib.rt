@@ -3,15 +3,21 @@
 use leaf::LeafCheck;
 use lookup::EntryAnswer;
 use lookup::WordAnswer;
+use writer::Answer;
 ghost use mathlib.Core.Path.{_≡_};
 ghost use Rattle.leaf.specs.Answers.{checkNumber};
-ghost use Rattle.fts4box.specs.Calls.{Checked, LookedUp, Decided, wordStart, entryStart, entryLeaf};
+ghost use Rattle.writer.specs.Answers.{number, beside};
+ghost use Rattle.fts4box.specs.Calls.{Checked, LookedUp, Decided, Written, wordStart, entryStart, entryLeaf};
 
 const ACCEPTED: u32 = 0;
 
 const SHAPE: u32 = 1;
 
 const LEAF: u32 = 3;
+
+const ROOM: u32 = 4;
+
+const WORD: u32 = 5;
 
 fn check_number(answer: LeafCheck) -> u32
     ensures { λ r. ⌜ r ≡ checkNumber answer ⌝ }
@@ -105,4 +111,42 @@ pub extern "C" fn fts4_deciding(
     *leaf = entry_leaf(answer);
     *start = entry_start(answer);
     lookup::entry_number(answer)
+}
+
+fn write_number(answer: Answer) -> u32
+    ensures { λ r. ⌜ r ≡ number answer ⌝ }
+{
+    match answer {
+        Answer::Written(_) => ACCEPTED,
+        Answer::Shape => SHAPE,
+        Answer::Overlong(_) => WORD,
+        Answer::Room(_) => ROOM,
+    }
+}
+
+fn write_second(answer: Answer) -> u64
+    ensures { λ r. ⌜ r ≡ beside answer ⌝ }
+{
+    match answer {
+        Answer::Written(n) => n as u64,
+        Answer::Shape => 0,
+        Answer::Overlong(column) => column as u64,
+        Answer::Room(need) => need as u64,
+    }
+}
+
+// Writes the leaf for one document.
+#[no_mangle]
+pub extern "C" fn fts4_write(
+    docid: i64,
+    texts: &[u8],
+    ends: &[u32],
+    room: &mut [u8],
+    second: &mut u64,
+) -> u32
+    ensures { λ r. ⌜ Written docid (now (texts .entry)) (now (ends .entry)) (now (room .entry)) (now (room .exit)) r (now (second .exit)) ⌝ }
+{
+    let answer = writer::write(docid, texts, ends, room);
+    *second = write_second(answer);
+    write_number(answer)
 }

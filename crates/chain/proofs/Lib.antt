@@ -1,0 +1,11 @@
+pub mod General
+pub mod Ends
+pub mod Marks
+pub mod Walks
+pub mod Occurring
+pub mod Nearing
+pub mod Reaching
+pub mod Nodes
+pub mod Occurrences
+pub mod Frontiers
+pub mod Chaining

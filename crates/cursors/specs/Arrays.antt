@@ -1,0 +1,111 @@
+-- How the groups lie in flat arrays: a cursor for each list, group by group, newest leaf first. A cursor stands on the
+-- first entry that is left of its list: its docid, and where its body begins in the lent leaves.
+--
+--     docids    docid of the entry; `finished` where the list has no entry left
+--     bodies    place of the entry's body, behind its docid number
+--     lasts     place of the list's last byte
+--     masks     bit i: the query's word number i matches the index word
+--     follows   0 for the first cursor of a group, 1 for the others
+use Prim.Native.Nat.{ℕ, suc, _+_, _-_, _≤_, _<_, min}
+use mathlib.Core.Path.{_≡_}
+use mathlib.Core.Bool.{Bool}
+use mathlib.Core.List.{List, [], _∷_, _++_}
+use lib.ListN.{length, getD, drop}
+use lib.Dec.{ltb, eqb}
+use Rattle.common.specs.Pick.{pick}
+use Rattle.doclist.specs.Doclist.{Entry, Columns, Entries, docidLimit, encodeFrom}
+use Rattle.row.specs.Row.{bodyBytes, RowIs}
+use Rattle.cursors.specs.Groups.{Group, hitsAt, moved, NextIs}
+use Rattle.cursors.specs.declared.Next.{Next}
+use Rattle.cursors.specs.declared.Next.the-variants.{Docid, End}
+use Rattle.cursors.specs.declared.Taken.{Taken}
+
+-- no docid: the largest number of 64 bits
+abbrev pub finished : ℕ
+finished = 0xffff_ffff_ffff_ffff
+
+-- all leaves together
+abbrev pub maxLeaves : ℕ
+maxLeaves = 65536
+
+-- a body goes up to its first byte 0
+abbrev pub isOpen : ℕ → Bool
+isOpen b = ltb 0 b
+
+-- ---- one cursor
+
+-- the entry `e` stands in the leaves, and the rest of its list behind it
+pub record StandsOn (leaves : List ℕ) (e : Entry) (rest : List Entry) (docid body last : ℕ) : Type 0 where
+  pub behind : List ℕ
+  pub same : docid ≡ e .docid
+  pub bytes : drop body leaves ≡ bodyBytes (e .columns) ++ (encodeFrom (e .docid) rest ++ behind)
+  pub ends : last + 1 ≡ body + length (bodyBytes (e .columns)) + length (encodeFrom (e .docid) rest)
+  pub limit : e .docid < docidLimit
+  pub good : Columns 0 16 (e .columns)
+  pub later : Entries (suc (e .docid)) 16 rest
+
+-- what is left of a list stands in the leaves
+abbrev pub ListAt : List ℕ → List Entry → ℕ → ℕ → ℕ → Type 0
+ListAt leaves [] docid body last = docid ≡ finished
+ListAt leaves (e ∷ rest) docid body last = StandsOn leaves e rest docid body last
+
+-- ---- all cursors
+
+pub record Cursor : Type 0 where
+  pub mask : ℕ
+  pub follows : ℕ
+  pub left : List Entry
+
+-- the cursors of one group, where `follows` marks the first
+abbrev pub groupCursors : ℕ → ℕ → List (List Entry) → List Cursor
+groupCursors mask follows [] = []
+groupCursors mask follows (l ∷ ls) = record { mask = mask; follows = follows; left = l } ∷ groupCursors mask 1 ls
+
+abbrev pub cursors : List Group → List Cursor
+cursors [] = []
+cursors (g ∷ gs) = groupCursors (g .mask) 0 (g .lists) ++ cursors gs
+
+abbrev pub noCursor : Cursor
+noCursor = record { mask = 0; follows = 0; left = [] }
+
+-- the arrays hold a cursor at the place k
+pub record CursorAt (leaves docids bodies lasts masks follows : List ℕ) (k : ℕ) (c : Cursor) : Type 0 where
+  pub list : ListAt leaves (c .left) (getD docids k 0) (getD bodies k 0) (getD lasts k 0)
+  pub mask : getD masks k 0 ≡ c .mask
+  pub follow : getD follows k 0 ≡ c .follows
+
+-- the arrays have room for n cursors
+pub record Room (n : ℕ) (docids bodies lasts masks follows : List ℕ) : Type 0 where
+  pub docid-room : n ≤ length docids
+  pub body-room : n ≤ length bodies
+  pub last-room : n ≤ length lasts
+  pub mask-room : n ≤ length masks
+  pub follow-room : n ≤ length follows
+
+-- the arrays hold n cursors
+pub record Hold (leaves docids bodies lasts masks follows : List ℕ) (n : ℕ) (cs : List Cursor) : Type 0 where
+  pub count : n ≡ length cs
+  pub room : Room n docids bodies lasts masks follows
+  pub each : (k : ℕ) → k < n → CursorAt leaves docids bodies lasts masks follows k (getD cs k noCursor)
+
+-- the arrays hold the cursors of the groups
+pub record CursorsAre (leaves docids bodies lasts masks follows : List ℕ) (n : ℕ) (groups : List Group) : Type 0 where
+  pub small : length leaves ≤ maxLeaves
+  pub hold : Hold leaves docids bodies lasts masks follows n (cursors groups)
+
+-- ---- the least docid
+
+abbrev pub leastOf : List ℕ → ℕ
+leastOf [] = finished
+leastOf (d ∷ ds) = min d (leastOf ds)
+
+abbrev pub nextOf : ℕ → Next
+nextOf docid = pick (eqb docid finished) End (Docid docid)
+
+-- ---- what taking the row at a docid does
+
+pub record RowTaken (leaves docids bodies lasts masks follows : List ℕ) (n : ℕ) (starts matched : List ℕ) (docid : ℕ) (groups : List Group) (r : Taken) : Type 0 where
+  pub count : r .hits ≡ length (hitsAt docid groups)
+  pub row : RowIs leaves starts matched (hitsAt docid groups)
+  pub cursors-are : CursorsAre leaves docids bodies lasts masks follows n (moved docid groups)
+  pub next-is : NextIs (moved docid groups) (r .next)

@@ -1,0 +1,25 @@
+-- `combine` meets its contract, test by test.
+use borrow.Author.Tests.{eq-eqb, ne-eqb}
+use Rattle.evaluate.proofs.combine.Statement.{statement}
+use Rattle.evaluate.proofs.combine.Tie as tie
+
+returns : tie.Need-returns
+returns c = simp (eq-eqb _ _ (c .before .if1 .taken), c .if2 .taken)
+
+returns-2 : tie.Need-returns-2
+returns-2 c = simp (eq-eqb _ _ (c .before .if1 .taken), c .if2 .left)
+
+returns-3 : tie.Need-returns-3
+returns-3 c = simp (ne-eqb _ _ (c .before .before .if1 .left), eq-eqb _ _ (c .before .if3 .taken), c .if4 .taken)
+
+returns-4 : tie.Need-returns-4
+returns-4 c = simp (ne-eqb _ _ (c .before .before .if1 .left), eq-eqb _ _ (c .before .if3 .taken), c .if4 .left)
+
+returns-5 : tie.Need-returns-5
+returns-5 c = simp (ne-eqb _ _ (c .before .before .if1 .left), ne-eqb _ _ (c .before .if3 .left), c .if5 .taken)
+
+returns-6 : tie.Need-returns-6
+returns-6 c = simp (ne-eqb _ _ (c .before .before .if1 .left), ne-eqb _ _ (c .before .if3 .left), c .if5 .left)
+
+pub combine-spec : {M : Type 1} → statement M
+combine-spec = tie.close (tie.spec returns returns-2 returns-3 returns-4 returns-5 returns-6)

@@ -1,0 +1,4 @@
+pub mod Lists
+pub mod Agree
+pub mod Some
+pub mod Occurrences

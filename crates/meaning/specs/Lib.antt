@@ -1,0 +1,3 @@
+pub mod Satisfies
+pub mod Index
+pub mod Listing

@@ -1,0 +1,33 @@
+-- A search's list (document 01): "all docids that satisfy the query, rising, each once; its length is the search's count
+-- and, with too little room, its need."
+use Prim.Native.Nat.{ℕ, _-_, _<_}
+use lib.IntN.{ℤ, pos}
+use mathlib.Core.Path.{_≡_}
+use mathlib.Core.Logic.{_↔_}
+use mathlib.Core.List.{List, [], _∷_, _++_, map, List·Memᴰ}
+use lib.ListN.{length, replicate}
+use Rattle.doclist.specs.Doclist.{Rising, docidLimit}
+use Rattle.leaf.specs.Leaf.{Term}
+use Rattle.query.specs.Tree.{Tree}
+use Rattle.meaning.specs.Satisfies.{Satisfies}
+use Rattle.meaning.specs.Index.{live}
+
+-- exactly the docids with a property: all of them, no other, each once, in rising order
+pub record Lists (P : ℕ → Type 0) (docids : List ℕ) : Type 0 where
+  pub rising : Rising 0 docidLimit docids
+  pub exact : (d : ℕ) → d < docidLimit → List·Memᴰ d docids ↔ P d
+
+-- the docids of an index that satisfy a query
+abbrev pub Answers : List (List Term) → Tree → List ℕ → Type 0
+Answers leaves tree docids = Lists (λ d. Satisfies (live leaves) d tree) docids
+
+-- how a docid is shown in the result room
+abbrev pub shown : ℕ → ℤ
+shown d = pos d
+
+-- a room of `n` numbers: the docids, then zeros
+abbrev pub roomWith : ℕ → List ℕ → List ℤ
+roomWith n docids = map shown docids ++ replicate (n - length docids) (pos 0)
+
+abbrev pub zeros : ℕ → List ℤ
+zeros n = replicate n (pos 0)

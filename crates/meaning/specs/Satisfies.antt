@@ -1,0 +1,103 @@
+-- When a row satisfies a query (document 01, "When a row satisfies a query"). A row is a docid. Where words stand in it is
+-- given by a function, `Live`: for a word, a docid and a column, the positions. Nothing here knows of leaves: the index
+-- enters through that function alone.
+use Prim.Native.Nat.{ℕ, zero, suc, _+_, _-_, _≤_, _<_}
+use mathlib.Core.Path.{_≡_}
+use mathlib.Core.Logic.{_⊎_, _↔_}
+use mathlib.Core.Bool.{Bool, true, false}
+use mathlib.Core.List.{List, [], _∷_, _++_, List·Memᴰ}
+use lib.ListN.{length}
+use Rattle.lexer.specs.Token.{QueryWord, Phrase, Distance, bare, written, allows}
+use Rattle.query.specs.Tree.{Op, OR, AND, NOT, Link, Chain, Tree, leaf, joined}
+
+-- ---- words
+
+-- for a word, a docid and a column, the positions where the word stands
+abbrev pub Live : Type 0
+Live = List ℕ → ℕ → ℕ → List ℕ
+
+-- a word begins with another
+abbrev pub BeginsWith : List ℕ → List ℕ → Type 0
+BeginsWith prefix word = (rest : List ℕ) × (word ≡ prefix ++ rest)
+
+-- which words of an index a word of the query stands for
+abbrev pub Matches : QueryWord → List ℕ → Type 0
+Matches w word = ((w .star ≡ false) × (word ≡ w .bytes)) ⊎ ((w .star ≡ true) × BeginsWith (w .bytes) word)
+
+-- "A plain word is at its live positions; a word with `*` is at the live positions of all words that begin with it."
+abbrev pub StandsAt : Live → ℕ → QueryWord → ℕ → ℕ → Type 0
+StandsAt live docid w column position = (word : List ℕ) × Matches w word × List·Memᴰ position (live word docid column)
+
+-- what follows goes by where the query's words stand in one row: word, column, position
+abbrev pub Standing : Type 1
+Standing = QueryWord → ℕ → ℕ → Type 0
+
+-- ---- phrases
+
+-- "An occurrence is a column with a first and a last position."
+pub record Occurrence : Type 0 where
+  pub column : ℕ
+  pub first : ℕ
+  pub last : ℕ
+
+-- words at consecutive positions of a column, the first at `position`
+abbrev pub Consecutive : Standing → List QueryWord → ℕ → ℕ → Type 0
+Consecutive stands [] column position = Unit {0}
+Consecutive stands (w ∷ ws) column position = stands w column position × Consecutive stands ws column (suc position)
+
+-- "A phrase occurs where its words stand at consecutive positions in one column. A column prefix allows that column only."
+pub record Occurs (stands : Standing) (p : Phrase) (o : Occurrence) : Type 0 where
+  pub allowed : allows (p .columns) (o .column) ≡ true
+  pub consecutive : Consecutive stands (p .words) (o .column) (o .first)
+  pub ends : o .last + 1 ≡ o .first + length (p .words)
+
+-- a phrase's occurrences in a row as a list, rising by column and then by position: all of them, each once
+abbrev pub RisingFrom : ℕ → ℕ → List Occurrence → Type 0
+RisingFrom column low [] = Unit {0}
+RisingFrom column low (o ∷ os) = ((column < o .column) ⊎ ((column ≡ o .column) × (low ≤ o .first))) × RisingFrom (o .column) (suc (o .first)) os
+
+pub record OccurrencesAre (stands : Standing) (p : Phrase) (os : List Occurrence) : Type 0 where
+  pub rising : RisingFrom 0 0 os
+  pub exact : (o : Occurrence) → List·Memᴰ o os ↔ Occurs stands p o
+
+-- ---- NEAR
+
+-- how many positions lie strictly between two occurrences; none where they share a position
+abbrev pub between : Occurrence → Occurrence → ℕ
+between a b = (b .first - (a .last + 1)) + (a .first - (b .last + 1))
+
+-- "10 if no N is written"
+abbrev pub bareDistance : ℕ
+bareDistance = 10
+
+abbrev pub distanceOf : Distance → ℕ
+distanceOf bare = bareDistance
+distanceOf (written n) = n
+
+-- "all in one column, with neighbours in the chain having at most N positions strictly between them, in either order"
+pub record Nearby (d : Distance) (a b : Occurrence) : Type 0 where
+  pub same-column : a .column ≡ b .column
+  pub close : between a b ≤ distanceOf d
+
+-- one occurrence is chosen for each further operand, near the one chosen before it
+abbrev pub Chosen : Standing → Occurrence → List Link → Type 0
+Chosen stands before [] = Unit {0}
+Chosen stands before (l ∷ ls) =
+    (o : Occurrence) × Occurs stands (l .phrase) o × Nearby (l .distance) before o × Chosen stands o ls
+
+-- "A NEAR chain holds if one occurrence of each operand can be chosen."
+abbrev pub ChainHolds : Standing → Chain → Type 0
+ChainHolds stands c = (o : Occurrence) × Occurs stands (c .first) o × Chosen stands o (c .links)
+
+-- ---- operators
+
+-- "AND, OR and NOT have their plain meaning on one row."
+abbrev pub Holds : Standing → Tree → Type 0
+Holds stands (leaf c) = ChainHolds stands c
+Holds stands (joined OR a b) = Holds stands a ⊎ Holds stands b
+Holds stands (joined AND a b) = Holds stands a × Holds stands b
+Holds stands (joined NOT a b) = Holds stands a × (Holds stands b → ⊥)
+
+-- a row satisfies a query
+abbrev pub Satisfies : Live → ℕ → Tree → Type 0
+Satisfies live docid tree = Holds (StandsAt live docid) tree

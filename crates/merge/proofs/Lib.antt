@@ -1,0 +1,13 @@
+pub mod General
+pub mod Masks
+pub mod Nodes
+pub mod Firsts
+pub mod Seeking
+pub mod Orders
+pub mod Choosing
+pub mod Taking
+pub mod Starting
+pub mod Words
+pub mod Room
+pub mod Merging
+pub mod Standing

@@ -1,0 +1,222 @@
+-- `merge::take_word` meets its contract. The loop's invariant: the word is taken from the first `j` fronts, and the arrays hold
+-- the cursors of its lists behind those that were there.
+use lib.ListN.{length-set}
+use Rattle.merge.proofs.Taking.{Taking, Lengths, taking-start, taking-other, taking-room, taking-this, taking-end, leaf-inside, able-more, lengths-more, taking-as, sought-as}
+use borrow.Author.Tests.{not-true, not-false}
+use Rattle.lexer.specs.Token.{Node}
+use Rattle.leaf.specs.Leaf.{Term}
+use Rattle.cursors.specs.Arrays.{Cursor, Hold}
+use Rattle.merge.specs.Matching.{WordsAre}
+use Rattle.merge.specs.Fronts.{wordOf, frontAt, headLists, FrontsAre, Able}
+use mathlib.Core.Path.{_≡_, refl, sym, _∙_}
+use mathlib.Core.List.{List}
+use mathlib.Core.Bool.{true, false}
+use Prim.Native.Nat.{ℕ, _+_, _-_, _≤_}
+use native.Mathlib.Omega.{arith}
+use borrow.Author.Needs.{needs}
+use lib.ListN.{length, take, set}
+use Rattle.merge.proofs.take_word.Statement.{statement}
+use Rattle.merge.proofs.take_word.Tie as tie
+
+abbrev Inv-loop : tie.InvT-loop
+Inv-loop text stops marks count leaves ends front docids₀ bodies₀ lasts₀ masks₀ follows₀ from fronts₀ n₀ follow₀ j₀ docids bodies lasts masks follows fronts n follow j =
+    Able leaves ends fronts docids₀ bodies₀ lasts₀ masks₀ follows₀ n
+    × (from ≤ n)
+    × (j ≤ length ends)
+    × (length fronts ≡ 8)
+    × (front .size ≤ 64)
+    × Lengths docids₀ bodies₀ lasts₀ masks₀ follows₀ docids bodies lasts masks follows
+    × ((nodes : List Node) (columns : ℕ) (left : List (List Term)) (cs : List Cursor) → WordsAre text stops marks count nodes → FrontsAre nodes columns leaves ends fronts₀ left
+    → Hold leaves docids₀ bodies₀ lasts₀ masks₀ follows₀ from cs → from + length (headLists (wordOf front) left) ≤ length docids₀
+    → Taking nodes columns (wordOf front) leaves ends left cs docids bodies lasts masks follows fronts n follow j)
+
+abbrev μ-loop : tie.MeasureT-loop
+μ-loop text stops marks count leaves ends front docids₀ bodies₀ lasts₀ masks₀ follows₀ from fronts₀ n₀ follow₀ j₀ docids bodies lasts masks follows fronts n follow j = length ends - j
+
+loop-holds : tie.Need-loop-holds Inv-loop μ-loop
+loop-holds c =
+    let p = c .before .before .before .before .before .before .before .before .before .before .pre in (
+      p .0,
+      omega arith,
+      omega arith,
+      search needs,
+      p .1,
+      record { docid-length = refl; body-length = refl; last-length = refl; mask-length = refl; follow-length = refl },
+      λ nodes columns left cs w f h r. taking-start (wordOf (c .before .before .before .before .before .before .before .before .before .before .args .front)) f h,
+    )
+
+mul-other : tie.Need-mul-other Inv-loop μ-loop
+mul-other c = omega (arith, c .before .loop .inv .0 .few)
+
+array-copy-out-other : tie.Need-array-copy-out-other Inv-loop μ-loop
+array-copy-out-other c = omega (arith, c .before .loop .inv .0 .few)
+
+has-word-requires : tie.Need-has-word-requires Inv-loop μ-loop
+has-word-requires c κs = (c .before .before .loop .inv .0 .sized (c .before .before .loop .j) (c .before .loop-test .taken), c .before .before .loop .inv .4)
+
+add-j : tie.Need-add-j Inv-loop μ-loop
+add-j c = search needs
+
+loop-less : tie.Need-loop-less Inv-loop μ-loop
+loop-less c = omega arith
+
+loop-again : tie.Need-loop-again Inv-loop μ-loop
+loop-again c =
+    let l = c .before .before .before .before .loop in
+    let a = c .before .before .before .before .before .before .before .before .before .before .before .before .before .before .before .args in (
+      l .inv .0,
+      l .inv .1,
+      omega arith,
+      l .inv .3,
+      l .inv .4,
+      l .inv .5,
+      λ nodes columns left cs w f h r.
+          taking-other nodes columns (a .leaves .now) (a .ends .now) left cs (l .docids) (l .bodies) (l .lasts) (l .masks) (l .follows) (l .fronts) (l .n) (l .follow) (l .j) (a .front)
+          (c .before .before .before .loop-test .taken) (l .inv .6 nodes columns left cs w f h r) (sym (c .before .has-word .ensures) ∙ not-true _ (c .if1 .taken)),
+    )
+
+same-length : tie.Need-same-length Inv-loop μ-loop
+same-length c = c .before .before .before .before .before .loop .inv .5 .docid-length
+
+same-length-2 : tie.Need-same-length-2 Inv-loop μ-loop
+same-length-2 c = c .before .before .before .before .before .loop .inv .5 .body-length
+
+same-length-3 : tie.Need-same-length-3 Inv-loop μ-loop
+same-length-3 c = c .before .before .before .before .before .loop .inv .5 .last-length
+
+same-length-4 : tie.Need-same-length-4 Inv-loop μ-loop
+same-length-4 c = c .before .before .before .before .before .loop .inv .5 .mask-length
+
+same-length-5 : tie.Need-same-length-5 Inv-loop μ-loop
+same-length-5 c = c .before .before .before .before .before .loop .inv .5 .follow-length
+
+returns : tie.Need-returns Inv-loop μ-loop
+returns c =
+    let l = c .before .before .before .before .before .loop in
+    let a = c .before .before .before .before .before .before .before .before .before .before .before .before .before .before .before .before .args in (
+      (l .inv .0, l .inv .1),
+      λ nodes columns left cs w f h r.
+          let t = taking-room nodes columns (a .leaves .now) (a .ends .now) left cs (l .docids) (l .bodies) (l .lasts) (l .masks) (l .follows) (l .fronts) (l .n) (l .follow) (l .j) (a .front)
+          (c .before .before .before .before .loop-test .taken) (l .inv .6 nodes columns left cs w f h r) (sym (c .before .before .has-word .ensures) ∙ not-false _ (c .before .if1 .left)) (omega (arith, h .count, l .inv .5 .docid-length)) in
+          absurd (omega (arith, c .if2 .taken)),
+    )
+
+push-requires : tie.Need-push-requires Inv-loop μ-loop
+push-requires c κs =
+    let l = c .before .before .before .before .before .before .before .before .before .before .loop in
+    let z = l .inv .5 in
+    let a = l .inv .0 in
+    (omega (arith, c .before .before .before .before .before .if2 .left), omega (arith, c .before .before .before .before .before .if2 .left, z .docid-length, z .body-length, a .body-room), omega (arith, c .before .before .before .before .before .if2 .left, z .docid-length, z .last-length, a .last-room), omega (arith, c .before .before .before .before .before .if2 .left, z .docid-length, z .mask-length, a .mask-room), omega (arith, c .before .before .before .before .before .if2 .left, z .docid-length, z .follow-length, a .follow-room))
+
+part-requires : tie.Need-part-requires Inv-loop μ-loop
+part-requires c κs = search needs
+
+leaf-start-requires : tie.Need-leaf-start-requires Inv-loop μ-loop
+leaf-start-requires c κs = c .before .before .before .before .before .before .before .before .before .before .before .before .before .before .before .before .before .before .before .before .before .loop-test .taken
+
+seek-requires : tie.Need-seek-requires Inv-loop μ-loop
+seek-requires c κs =
+    let l = c .before .before .before .before .before .before .before .before .before .before .before .before .before .before .before .before .before .before .before .before .before .before .before .loop in
+    let a = c .before .before .before .before .before .before .before .before .before .before .before .before .before .before .before .before .before .before .before .before .before .before .before .before .before .before .before .before .before .before .before .before .before .before .args in
+    let i = leaf-inside (a .leaves .now) (a .ends .now) (l .j) (c .leaf-start .result) (c .before .part .result .now) (l .inv .0 .cuts) (c .before .before .before .before .before .before .before .before .before .before .before .before .before .before .before .before .before .before .before .before .before .before .loop-test .taken) (c .before .part .ensures) (c .leaf-start .ensures) in
+    omega (arith, i, l .inv .0 .small)
+
+mul-fronts : tie.Need-mul-fronts Inv-loop μ-loop
+mul-fronts c = omega (arith, c .before .before .before .before .before .before .before .before .before .before .before .before .before .before .before .before .before .before .before .before .before .before .before .before .loop .inv .0 .few, c .before .before .before .before .before .before .before .before .before .before .before .before .before .before .before .before .before .before .before .before .before .before .before .loop-test .taken)
+
+array-set-from-fronts : tie.Need-array-set-from-fronts Inv-loop μ-loop
+array-set-from-fronts c = omega (arith, c .before .before .before .before .before .before .before .before .before .before .before .before .before .before .before .before .before .before .before .before .before .before .before .before .loop .inv .0 .few, c .before .before .before .before .before .before .before .before .before .before .before .before .before .before .before .before .before .before .before .before .before .before .before .loop-test .taken)
+
+add-n : tie.Need-add-n Inv-loop μ-loop
+add-n c = omega (arith, c .before .before .before .before .before .before .before .before .before .before .before .before .before .before .before .before .before .before .before .before .before .before .before .before .loop .inv .0 .within, c .before .before .before .before .before .before .before .before .before .before .before .before .before .before .before .before .before .before .before .before .before .before .before .before .loop .inv .5 .docid-length, c .before .before .before .before .before .before .before .before .before .before .before .before .before .before .before .before .before .before .before .if2 .left, c .before .before .before .before .before .before .before .before .before .before .before .before .before .before .before .before .before .before .before .before .before .before .before .before .before .before .before .before .before .before .before .before .before .before .before .good .1 .1 .1 .1 .1 .1 .1 .1 .0 .0)
+
+add-j-2 : tie.Need-add-j-2 Inv-loop μ-loop
+add-j-2 c = omega (arith, c .before .before .before .before .before .before .before .before .before .before .before .before .before .before .before .before .before .before .before .before .before .before .before .before .loop .inv .0 .few, c .before .before .before .before .before .before .before .before .before .before .before .before .before .before .before .before .before .before .before .before .before .before .before .loop-test .taken)
+
+loop-less-2 : tie.Need-loop-less-2 Inv-loop μ-loop
+loop-less-2 c = omega (arith, c .before .before .before .before .before .before .before .before .before .before .before .before .before .before .before .before .before .before .before .before .before .before .before .loop-test .taken)
+
+loop-again-2 : tie.Need-loop-again-2 Inv-loop μ-loop
+loop-again-2 c =
+    let l = c .before .before .before .before .before .before .before .before .before .before .before .before .before .before .before .before .before .before .before .before .before .before .before .before .loop in
+    let a = c .before .before .before .before .before .before .before .before .before .before .before .before .before .before .before .before .before .before .before .before .before .before .before .before .before .before .before .before .before .before .before .before .before .before .before .args in
+    let z = l .inv .5 in
+    let b = l .inv .0 in
+    let p = c .before .before .before .before .before .before .before .before .before .before .before .before .before .push .ensures in
+    let f = frontAt (l .fronts) (l .j) in
+    let t = c .before .before .before .before .before .before .before .before .before .before .before .before .before .before .before .before .before .before .before .before .before .before .before .loop-test .taken in
+    let room = c .before .before .before .before .before .before .before .before .before .before .before .before .before .before .before .before .before .before .before .if2 .left in
+    let other = c .seek .result in (
+      able-more (l .j) other b (omega (arith, room, z .docid-length)) (omega (arith, l .inv .3, b .few, t)) (c .seek .ensures .0),
+      omega (arith, l .inv .1),
+      omega arith,
+      length-set (l .fronts) (l .j) other ∙ l .inv .3,
+      l .inv .4,
+      lengths-more (l .n) (f .docid) (f .body) (f .last) (f .mask) (l .follow) z (p .0) (p .1) (p .2) (p .3) (p .4),
+      λ nodes columns left cs w fs h r.
+          taking-as (p .0) (p .1) (p .2) (p .3) (p .4)
+          (taking-this nodes columns (a .leaves .now) (a .ends .now) left cs (l .docids) (l .bodies) (l .lasts) (l .masks) (l .follows) (l .fronts) (l .n) (l .follow) (l .j) (a .front)
+          t (l .inv .6 nodes columns left cs w fs h r) other (b .cuts) (sym (c .before .before .before .before .before .before .before .before .before .before .before .before .before .before .before .before .before .before .before .before .before .has-word .ensures) ∙ not-false _ (c .before .before .before .before .before .before .before .before .before .before .before .before .before .before .before .before .before .before .before .before .if1 .left))
+          (omega (arith, room)) (omega (arith, room, z .docid-length, z .body-length, b .body-room)) (omega (arith, room, z .docid-length, z .last-length, b .last-room)) (omega (arith, room, z .docid-length, z .mask-length, b .mask-room)) (omega (arith, room, z .docid-length, z .follow-length, b .follow-room))
+          (omega (arith, l .inv .3, b .few, t))
+          (sought-as (c .before .before .part .ensures) (c .before .leaf-start .ensures) (λ ts rs. c .seek .ensures .1 nodes columns ts w rs))),
+    )
+
+same-length-6 : tie.Need-same-length-6 Inv-loop μ-loop
+same-length-6 c = c .before .loop .inv .5 .docid-length
+
+same-length-7 : tie.Need-same-length-7 Inv-loop μ-loop
+same-length-7 c = c .before .loop .inv .5 .body-length
+
+same-length-8 : tie.Need-same-length-8 Inv-loop μ-loop
+same-length-8 c = c .before .loop .inv .5 .last-length
+
+same-length-9 : tie.Need-same-length-9 Inv-loop μ-loop
+same-length-9 c = c .before .loop .inv .5 .mask-length
+
+same-length-10 : tie.Need-same-length-10 Inv-loop μ-loop
+same-length-10 c = c .before .loop .inv .5 .follow-length
+
+returns-2 : tie.Need-returns-2 Inv-loop μ-loop
+returns-2 c =
+    let l = c .before .loop in
+    let a = c .before .before .before .before .before .before .before .before .before .before .before .before .args in (
+      (l .inv .0, l .inv .1),
+      λ nodes columns left cs w f h r. taking-end (l .j) (c .loop-test .left) (l .inv .6 nodes columns left cs w f h r),
+    )
+
+pub take-word-spec : {M : Type 1} → statement M
+take-word-spec =
+    tie.close
+    (tie.spec
+    Inv-loop
+    μ-loop
+    loop-holds
+    mul-other
+    array-copy-out-other
+    has-word-requires
+    add-j
+    loop-less
+    loop-again
+    same-length
+    same-length-2
+    same-length-3
+    same-length-4
+    same-length-5
+    returns
+    push-requires
+    part-requires
+    leaf-start-requires
+    seek-requires
+    mul-fronts
+    array-set-from-fronts
+    add-n
+    add-j-2
+    loop-less-2
+    loop-again-2
+    same-length-6
+    same-length-7
+    same-length-8
+    same-length-9
+    same-length-10
+    returns-2)

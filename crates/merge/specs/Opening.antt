@@ -1,0 +1,78 @@
+-- What a search starts from: the posting lists of every index word that some word of the query matches. An index word's
+-- group has its lists in all leaves that have the word, newest leaf first.
+use Prim.Native.Nat.{ℕ, _+_, _≤_}
+use mathlib.Core.Path.{_≡_}
+use mathlib.Core.List.{List, [], _∷_, _++_, map, List·Memᴰ}
+use lib.ListN.{length}
+use Rattle.common.specs.Pick.{pick}
+use Rattle.common.specs.Bytes.{same}
+use Rattle.offsets.specs.Cut.{Cuts, cut}
+use Rattle.doclist.specs.Doclist.{Entry, encodeList}
+use Rattle.leaf.specs.Leaf.{Term, WellFormed, encodeLeaf}
+use Rattle.lexer.specs.Token.{Node}
+use Rattle.cursors.specs.Groups.{Group}
+use Rattle.cursors.specs.Arrays.{maxLeaves, CursorsAre}
+use Rattle.merge.specs.Matching.{maskOf}
+
+-- ---- the leaves
+
+-- each of these byte strings is the leaf with these terms
+abbrev pub AreLeaves : ℕ → List (List ℕ) → List (List Term) → Type 0
+AreLeaves columns [] [] = Unit {0}
+AreLeaves columns [] (ts ∷ leaves) = ⊥
+AreLeaves columns (b ∷ bytes) [] = ⊥
+AreLeaves columns (b ∷ bytes) (ts ∷ leaves) = (WellFormed columns ts × (b ≡ encodeLeaf ts)) × AreLeaves columns bytes leaves
+
+-- document 01's bound on the number of leaves
+abbrev pub mostLeaves : ℕ
+mostLeaves = 8
+
+-- the lent bytes are leaves with these terms, newest first
+pub record LeavesAre (columns : ℕ) (bytes ends : List ℕ) (leaves : List (List Term)) : Type 0 where
+  pub cuts : Cuts bytes ends
+  pub few : length ends ≤ mostLeaves
+  pub small : length bytes ≤ maxLeaves
+  pub are : AreLeaves columns (cut bytes ends) leaves
+
+-- ---- the groups
+
+-- the list of a word in a leaf, if the leaf has the word
+abbrev pub listFor : List ℕ → List Term → List (List Entry)
+listFor word [] = []
+listFor word (t ∷ ts) = pick (same (t .word) word) (t .entries ∷ []) (listFor word ts)
+
+abbrev pub listsOf : List ℕ → List (List Term) → List (List Entry)
+listsOf word [] = []
+listsOf word (ts ∷ leaves) = listFor word ts ++ listsOf word leaves
+
+abbrev pub groupOf : List Node → List (List Term) → List ℕ → Group
+groupOf nodes leaves word = record { mask = maskOf nodes word; lists = listsOf word leaves }
+
+-- how many bytes lists take together, and how many bytes the lists of groups take
+abbrev pub listsSize : List (List Entry) → ℕ
+listsSize [] = 0
+listsSize (l ∷ ls) = length (encodeList l) + listsSize ls
+
+abbrev pub groupsSize : List Group → ℕ
+groupsSize [] = 0
+groupsSize (g ∷ gs) = listsSize (g .lists) + groupsSize gs
+
+-- a group for each index word that some query word matches; together they take no more than `size` bytes
+pub record GroupsOf (nodes : List Node) (leaves : List (List Term)) (size : ℕ) (groups : List Group) : Type 0 where
+  pub words : List (List ℕ)
+  pub are : groups ≡ map (groupOf nodes leaves) words
+  pub every : (word : List ℕ) → (maskOf nodes word ≡ 0 → ⊥) → (listsOf word leaves ≡ [] → ⊥) → List·Memᴰ word words
+  pub some : (word : List ℕ) → List·Memᴰ word words → (maskOf nodes word ≡ 0 → ⊥) × (listsOf word leaves ≡ [] → ⊥)
+  pub small : groupsSize groups ≤ size
+
+-- ---- the promise
+
+-- a word takes at least 6 bytes of a leaf
+abbrev pub wordSize : ℕ
+wordSize = 6
+
+-- the arrays hold the cursors of these groups
+pub record Opened (nodes : List Node) (leaves : List (List Term)) (bytes docids bodies lasts masks follows : List ℕ) (n : ℕ) : Type 0 where
+  pub groups : List Group
+  pub groups-are : GroupsOf nodes leaves (length bytes) groups
+  pub cursors-are : CursorsAre bytes docids bodies lasts masks follows n groups

@@ -1,0 +1,5 @@
+pub mod General
+pub mod Bodies
+pub mod Rows
+pub mod Candidates
+pub mod Standing
