@@ -10,7 +10,8 @@ use Rattle.common.proofs.Lists.{same-refl}
 use Rattle.leaf.specs.Leaf.{Before}
 use Rattle.document.specs.Document.{earlier, insertWord, distinct}
 use Rattle.document.proofs.General.{Each, Rise, each-member, member-each, rise-unique}
-use Rattle.document.proofs.Order.{before-never, before-trans, order-case, before-earlier, later-not-earlier, same-not-earlier, later-not-same}
+use Rattle.leaf.proofs.Words.{before-irrefl, before-trans, before-case}
+use Rattle.document.proofs.Order.{before-earlier, later-not-earlier, same-not-earlier, later-not-same}
 
 -- ---- where a word goes
 
@@ -28,7 +29,7 @@ insert-later w v vs h = rw (later-not-earlier v w h, later-not-same v w h) refl
 pub insert-has : (w : List ℕ) (vs : List (List ℕ)) → List·Memᴰ w (insertWord w vs)
 insert-has w [] = List·Memᴰ·head refl
 insert-has w (v ∷ vs) =
-    order-case w v
+    before-case w v
     (λ h. subst (List·Memᴰ w) (sym (insert-first w v vs h)) (List·Memᴰ·head refl))
     (λ e. subst (List·Memᴰ w) (sym (insert-there w v vs e)) (List·Memᴰ·head e))
     (λ h. subst (List·Memᴰ w) (sym (insert-later w v vs h)) (List·Memᴰ·tail (insert-has w vs)))
@@ -36,7 +37,7 @@ insert-has w (v ∷ vs) =
 pub insert-keeps : (w u : List ℕ) (vs : List (List ℕ)) → List·Memᴰ u vs → List·Memᴰ u (insertWord w vs)
 insert-keeps w u [] m = absurd (List·Memᴰ·not-nil m)
 insert-keeps w u (v ∷ vs) m =
-    order-case w v
+    before-case w v
     (λ h. subst (List·Memᴰ u) (sym (insert-first w v vs h)) (List·Memᴰ·tail m))
     (λ e. subst (List·Memᴰ u) (sym (insert-there w v vs e)) m)
     (λ h. subst (List·Memᴰ u) (sym (insert-later w v vs h))
@@ -45,7 +46,7 @@ insert-keeps w u (v ∷ vs) m =
 pub insert-from : (w u : List ℕ) (vs : List (List ℕ)) → List·Memᴰ u (insertWord w vs) → (u ≡ w) ⊎ List·Memᴰ u vs
 insert-from w u [] m = List·Memᴰ·cases-cons m
 insert-from w u (v ∷ vs) m =
-    order-case w v
+    before-case w v
     (λ h. List·Memᴰ·cases-cons (subst (List·Memᴰ u) (insert-first w v vs h) m))
     (λ e. inr (subst (List·Memᴰ u) (insert-there w v vs e) m))
     (λ h. ⊎-elim
@@ -74,7 +75,7 @@ distinct-from (w ∷ ws) u m =
 insert-rises : (w : List ℕ) (vs : List (List ℕ)) → Rise Before vs → Rise Before (insertWord w vs)
 insert-rises w [] r = (tt, tt)
 insert-rises w (v ∷ vs) r =
-    order-case w v
+    before-case w v
     (λ h. subst (Rise Before) (sym (insert-first w v vs h))
     ((h, member-each (Before w) vs (λ u m. before-trans w v u h (each-member (Before v) vs u (r .0) m))), r))
     (λ e. subst (Rise Before) (sym (insert-there w v vs e)) r)
@@ -97,6 +98,6 @@ distinct-rises (w ∷ ws) = insert-rises w (distinct ws) (distinct-rises ws)
 pub distinct-same : (us ws : List (List ℕ)) → ((w : List ℕ) → List·Memᴰ w us → List·Memᴰ w ws) → ((w : List ℕ) → List·Memᴰ w ws → List·Memᴰ w us)
     → distinct us ≡ distinct ws
 distinct-same us ws f g =
-    rise-unique Before before-never before-trans (distinct us) (distinct ws) (distinct-rises us) (distinct-rises ws)
+    rise-unique Before before-irrefl before-trans (distinct us) (distinct ws) (distinct-rises us) (distinct-rises ws)
     (λ w m. distinct-has ws w (f w (distinct-from us w m)))
     (λ w m. distinct-has us w (g w (distinct-from ws w m)))

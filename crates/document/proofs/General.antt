@@ -1,6 +1,5 @@
 -- Laws of lists that do not speak of documents: members, what holds of every element, and lists that rise by a strict order.
-use Prim.Native.Nat.{ℕ, zero, suc, _+_, _≤_, _<_}
-use native.Mathlib.Nat.{not-suc-le-zero, le-of-suc-le-suc}
+use Prim.Native.Nat.{ℕ, suc, _<_}
 use native.Mathlib.Omega.{arith}
 use mathlib.Core.Path.{_≡_, refl, sym, ap₂, subst, _∙_}
 use mathlib.Core.Logic.{_⊎_, inl, inr, ⊎-elim}
@@ -9,11 +8,6 @@ use lib.ListN.{length, getD}
 
 module _ {A : Type 0} where
   -- ---- members
-
-  pub member-at : (l : List A) (d : A) (i : ℕ) → i < length l → List·Memᴰ (getD l i d) l
-  member-at [] d i h = absurd (not-suc-le-zero h)
-  member-at (x ∷ l) d zero h = List·Memᴰ·head refl
-  member-at (x ∷ l) d (suc i) h = List·Memᴰ·tail (member-at l d i (le-of-suc-le-suc h))
 
   pub at-member : (l : List A) (d x : A) → List·Memᴰ x l → (i : ℕ) × (i < length l) × (getD l i d ≡ x)
   at-member [] d x m = absurd (List·Memᴰ·not-nil m)

@@ -7,4 +7,5 @@ pub mod Terms
 pub mod Keyed
 pub mod Only
 pub mod Size
+pub mod Reading
 pub mod Examples

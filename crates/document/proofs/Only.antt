@@ -10,7 +10,7 @@ use Rattle.doclist.specs.Doclist.{Column, Entry, Rising, NotEmpty, Columns, Ent
 use Rattle.leaf.specs.Leaf.{Term, Before, GoodTerm, Terms, WellFormed}
 use Rattle.document.specs.Document.{documentTerms, Writable, Posted, IsDocument}
 use Rattle.document.proofs.General.{member-some, Each, Rise, each-member, member-each, rise-unique}
-use Rattle.document.proofs.Order.{before-never, before-trans}
+use Rattle.leaf.proofs.Words.{before-irrefl, before-trans}
 use Rattle.document.proofs.Keyed.{Says, keyed-unique}
 use Rattle.document.proofs.Terms.{document-is, docid-only, document-well-formed}
 
@@ -193,7 +193,7 @@ pub content-unique : (count : ℕ) (ts us : List Term) → WellFormed count ts �
     → ((w : List ℕ) (d c p : ℕ) → Posted us w d c p → Posted ts w d c p)
     → ts ≡ us
 content-unique count ts us g h l m f b =
-    keyed-unique wordOf Before before-never before-trans InTerm (LiveTerm count) (term-something count) (term-ext count) ts us
+    keyed-unique wordOf Before before-irrefl before-trans InTerm (LiveTerm count) (term-something count) (term-ext count) ts us
     (terms-rise count [] ts (g .terms)) (terms-rise count [] us (h .terms))
     (terms-live count [] ts (g .terms) l) (terms-live count [] us (h .terms) m)
     (λ w z s. posted-says us w (z .0) (z .1 .0) (z .1 .1) (f w (z .0) (z .1 .0) (z .1 .1) (says-posted ts w (z .0) (z .1 .0) (z .1 .1) s)))
@@ -220,7 +220,7 @@ module _ (docid : ℕ) (texts : List (List ℕ)) (ts : List Term) (i : IsDocumen
       let l = first ts (g .some) (terms-live count [] ts (g .terms) (i .live)) in
       let s = term-something count (l .0) (l .2) in
       let q = posted-here (l .0 .word) (s .0 .0) (s .0 .1 .0) (s .0 .1 .1)
-      (says-posted ts (l .0 .word) (s .0 .0) (s .0 .1 .0) (s .0 .1 .1) (record { x = l .0; member = l .1; has = refl; says = s .1 })) in
+          (says-posted ts (l .0 .word) (s .0 .0) (s .0 .1 .0) (s .0 .1 .1) (record { x = l .0; member = l .1; has = refl; says = s .1 })) in
       member-some (documentTerms docid texts) (q .term) (q .in-leaf)
     where
       first : (us : List Term) → 0 < length us → Each (LiveTerm count) us → (t : Term) × List·Memᴰ t us × LiveTerm count t

@@ -1,7 +1,7 @@
--- The byte order of words is strict and total, and `earlier` is its test.
+-- `earlier` is the test of the byte order of words, which is strict and total.
 use Prim.Native.Nat.{ℕ, _<_}
 use native.Mathlib.Omega.{arith}
-use mathlib.Core.Path.{_≡_, refl, sym, ap₂, subst, _∙_}
+use mathlib.Core.Path.{_≡_, refl, sym, subst}
 use mathlib.Core.Logic.{inl, inr, ⊎-elim}
 use mathlib.Core.Bool.{Bool, true, false}
 use mathlib.Core.List.{List, [], _∷_}
@@ -9,45 +9,11 @@ use lib.Dec.{ltb, eqb}
 use borrow.Author.Tests.{ltb-true, lt-ltb, le-ltb, eqb-true, eq-eqb, ne-eqb}
 use Rattle.common.specs.Pick.{both, either}
 use Rattle.common.specs.Bytes.{same}
-use Rattle.common.proofs.Cases.{split, bool-case, both-left, both-right, both-true, false-not-true}
+use Rattle.common.proofs.Cases.{bool-case, both-left, both-right, both-true, false-not-true}
 use Rattle.common.proofs.Lists.{same-true}
 use Rattle.leaf.specs.Leaf.{Before}
+use Rattle.leaf.proofs.Words.{before-irrefl, before-trans}
 use Rattle.document.specs.Document.{earlier}
-
-pub before-never : (w : List ℕ) → Before w w → ⊥
-before-never [] h = h
-before-never (a ∷ w) h = ⊎-elim (λ (l : a < a). omega arith) (λ (p : (a ≡ a) × Before w w). before-never w (p .1)) h
-
-pub before-trans : (u v w : List ℕ) → Before u v → Before v w → Before u w
-before-trans [] [] w p q = absurd p
-before-trans [] (b ∷ v) [] p q = absurd q
-before-trans [] (b ∷ v) (c ∷ w) p q = tt
-before-trans (a ∷ u) [] w p q = absurd p
-before-trans (a ∷ u) (b ∷ v) [] p q = absurd q
-before-trans (a ∷ u) (b ∷ v) (c ∷ w) p q =
-    ⊎-elim
-    (λ (l : a < b). inl (⊎-elim (λ (m : b < c). omega arith) (λ (m : (b ≡ c) × Before v w). omega arith) q))
-    (λ (l : (a ≡ b) × Before u v).
-    ⊎-elim
-    (λ (m : b < c). inl (omega arith))
-    (λ (m : (b ≡ c) × Before v w). inr (l .0 ∙ m .0, before-trans u v w (l .1) (m .1)))
-    q)
-    p
-
--- of two words one comes before the other, or they are the same
-pub order-case {ℓ} : {X : Type ℓ} (v w : List ℕ) → (Before v w → X) → (v ≡ w → X) → (Before w v → X) → X
-order-case [] [] f g h = g refl
-order-case [] (b ∷ w) f g h = f tt
-order-case (a ∷ v) [] f g h = h tt
-order-case (a ∷ v) (b ∷ w) f g h =
-    split a b
-    (λ l. f (inl l))
-    (λ l. split b a
-    (λ m. h (inl m))
-    (λ m. let e : a ≡ b = omega arith in
-    order-case v w (λ p. f (inr (e, p))) (λ p. g (ap₂ _∷_ e p)) (λ p. h (inr (sym e, p)))))
-
--- ---- the test
 
 pub earlier-before : (v w : List ℕ) → earlier v w ≡ true → Before v w
 earlier-before [] [] e = false-not-true e
@@ -77,13 +43,13 @@ pub not-earlier : (v w : List ℕ) → (Before v w → ⊥) → earlier v w ≡ 
 not-earlier v w n = bool-case (earlier v w) (λ t. absurd (n (earlier-before v w t))) (λ t. t)
 
 pub later-not-earlier : (v w : List ℕ) → Before v w → earlier w v ≡ false
-later-not-earlier v w h = not-earlier w v (λ k. before-never v (before-trans v w v h k))
+later-not-earlier v w h = not-earlier w v (λ k. before-irrefl v (before-trans v w v h k))
 
 pub same-not-earlier : (v w : List ℕ) → v ≡ w → earlier v w ≡ false
-same-not-earlier v w e = not-earlier v w (λ k. before-never w (subst (λ x. Before x w) e k))
+same-not-earlier v w e = not-earlier v w (λ k. before-irrefl w (subst (λ x. Before x w) e k))
 
 pub later-not-same : (v w : List ℕ) → Before v w → same w v ≡ false
-later-not-same v w h = bool-case (same w v) (λ t. absurd (before-never w (subst (λ x. Before x w) (sym (same-true w v t)) h))) (λ t. t)
+later-not-same v w h = bool-case (same w v) (λ t. absurd (before-irrefl w (subst (λ x. Before x w) (sym (same-true w v t)) h))) (λ t. t)
 
 pub before-not-same : (v w : List ℕ) → Before v w → same v w ≡ false
-before-not-same v w h = bool-case (same v w) (λ t. absurd (before-never w (subst (λ x. Before x w) (same-true v w t) h))) (λ t. t)
+before-not-same v w h = bool-case (same v w) (λ t. absurd (before-irrefl w (subst (λ x. Before x w) (same-true v w t) h))) (λ t. t)

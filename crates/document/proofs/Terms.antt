@@ -8,12 +8,13 @@ use mathlib.Core.Logic.{_⊎_, inl, inr, ⊎-elim, _↔_}
 use mathlib.Core.List.{List, [], _∷_, _++_, map, flatten, List·Memᴰ, List·Memᴰ·head, List·Memᴰ·tail, List·Memᴰ·not-nil, List·Memᴰ·cases-cons, List·Memᴰ·append-cases, List·Memᴰ·eq-of-singleton, Memᴰ·append-left, Memᴰ·append-right, Memᴰ·map, Memᴰ·of-map}
 use lib.ListN.{length, getD, length-append, length-map}
 use Rattle.tokenizer.specs.Word.{wordsOf, places, maxWord}
+use Rattle.tokenizer.proofs.General.{member-at}
 use Rattle.tokenizer.proofs.Folds.{Folded, words-fold}
 use Rattle.doclist.specs.Doclist.{Column, Entry, NotEmpty, docidLimit, positionLimit}
 use Rattle.doclist.specs.Doclist as doclist
 use Rattle.leaf.specs.Leaf.{Term, Before, GoodTerm, Terms, WellFormed}
 use Rattle.document.specs.Document.{StandsAt, allWords, distinct, positionsFrom, columnsFrom, documentTerm, documentTerms, Writable, Posted, IsDocument}
-use Rattle.document.proofs.General.{member-some, member-at, at-member, Rise, Each, each-member, member-each}
+use Rattle.document.proofs.General.{member-some, at-member, Rise, Each, each-member, member-each}
 use Rattle.document.proofs.Distinct.{distinct-has, distinct-from, distinct-rises}
 use Rattle.document.proofs.Weight.{text-count, text-inside}
 use Rattle.document.proofs.Places.{Number, IsColumn, position-from, position-has, column-from, column-has, columns-good}

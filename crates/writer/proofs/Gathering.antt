@@ -18,12 +18,13 @@ use Rattle.common.proofs.Cases.{split, bool-case, false-not-true}
 use Rattle.tokenizer.specs.Word.{Place, wordStart, placesIn, placesFrom, places, wordAt, wordsOf, maxWord, nextWord}
 use Rattle.tokenizer.specs.declared.Word.{Word}
 use Rattle.tokenizer.specs.declared.Word.the-variants.{Found, Overlong, Nothing}
+use Rattle.tokenizer.proofs.General.{member-at}
 use Rattle.tokenizer.proofs.Word.{the-type}
 use Rattle.tokenizer.proofs.Laws.{placed-some, placed-none, start-end, places-none, found-bounds, found-first, overlong-bounds, overlong-first, overlong-long, nothing-first}
 use Rattle.tokenizer.proofs.Folds.{word-length}
 use Rattle.offsets.specs.Cut.{Cuts, cut}
 use Rattle.offsets.proofs.Cuts as cuts
-use Rattle.document.proofs.General.{member-at, at-member}
+use Rattle.document.proofs.General.{at-member}
 use Rattle.writer.specs.Answers.{hasOverlong}
 use Rattle.writer.specs.Rows.{rowOf, startOf, endOf, columnOf, positionOf, wordOf, Inside, AllInside, placeRows, columnRows, rowsFrom, documentRows, notBefore, insertRow, insertRows, Addable, AddedTo, Gatherable, Gathered}
 
@@ -155,11 +156,8 @@ module _ (text : List ℕ) (base column : ℕ) (folded before : List ℕ) (n : �
           let c = h .columns in
           let k = bounds in
           record {
-            begins = omega (
-              arith,
-              row-start (base + a) (base + e) column position (omega arith) (omega arith) (omega arith) (omega arith),
-              row-end (base + a) (base + e) column position (omega arith) (omega arith) (omega arith) (omega arith),
-            );
+            begins = omega (arith, row-start (base + a) (base + e) column position (omega arith) (omega arith) (omega arith) (omega arith),
+                row-end (base + a) (base + e) column position (omega arith) (omega arith) (omega arith) (omega arith));
             ends = omega (arith, h .stands, row-end (base + a) (base + e) column position (omega arith) (omega arith) (omega arith) (omega arith));
           }
 
@@ -259,7 +257,7 @@ module _ (s es folded before : List ℕ) (h : Gatherable s es folded before) whe
           → Gathering s es folded before after count (getD es i 0) (i + 1)
       gathering-more after count a l =
           let e : rowsFrom (i + 1) (getD es i 0) s (drop (i + 1) es) ≡ rowsFrom (suc i) (getD es i 0) s (drop (suc i) es) =
-          ap (λ j. rowsFrom j (getD es i 0) s (drop j es)) (add-one i) in
+              ap (λ j. rowsFrom j (getD es i 0) s (drop j es)) (add-one i) in
           record {
             starts = rw add-one refl;
             ends = text-ends;
@@ -272,13 +270,6 @@ module _ (s es folded before : List ℕ) (h : Gatherable s es folded before) whe
                 ∙ sym (insert-append folded (take n rows) (columnRows base i text) (rowsFrom (suc i) (getD es i 0) s (drop (suc i) es)))
                 ∙ sym (ap (insertRows folded (take n rows)) rows-step)
                 ∙ g .sorted;
-            count = omega (
-              arith,
-              a .all,
-              g .count,
-              ap length e,
-              ap length rows-step,
-              length-append (columnRows base i text) (rowsFrom (suc i) (getD es i 0) s (drop (suc i) es)),
-              place-rows-length base i 0 (places text),
-            );
+            count = omega (arith, a .all, g .count, ap length e, ap length rows-step,
+                length-append (columnRows base i text) (rowsFrom (suc i) (getD es i 0) s (drop (suc i) es)), place-rows-length base i 0 (places text));
           }

@@ -18,7 +18,8 @@ use Rattle.doclist.specs.Doclist.{encodeList}
 use Rattle.leaf.specs.Leaf.{Before, shared, sized, encodeTerms}
 use Rattle.document.specs.Document.{allWords, insertWord, distinct, keepIf, documentTerm, documentTerms, documentLeaf}
 use Rattle.document.proofs.General.{Each, Rise, each-member, member-each}
-use Rattle.document.proofs.Order.{before-never, before-trans, before-not-same, later-not-same}
+use Rattle.leaf.proofs.Words.{before-irrefl, before-trans}
+use Rattle.document.proofs.Order.{before-not-same, later-not-same}
 use Rattle.document.proofs.Distinct.{insert-first, insert-there, distinct-from, distinct-same}
 use Rattle.document.proofs.Size.{document-terms-leaf}
 use Rattle.writer.specs.Rows.{wordOf, documentRows, insertRows, sameWord}

@@ -12,3 +12,4 @@ pub mod Sorting
 pub mod LeafLaw
 pub mod LeafWriting
 pub mod Rules
+pub mod Written

@@ -13,7 +13,8 @@ use Rattle.common.proofs.Lists.{same-true, same-refl}
 use Rattle.leaf.specs.Leaf.{Before}
 use Rattle.document.specs.Document.{earlier, keepIf}
 use Rattle.document.proofs.General.{Each, Rise, each-member, member-each, rise-unique}
-use Rattle.document.proofs.Order.{before-never, before-trans, order-case, earlier-before, before-earlier}
+use Rattle.leaf.proofs.Words.{before-irrefl, before-trans, before-case}
+use Rattle.document.proofs.Order.{earlier-before, before-earlier}
 use Rattle.writer.specs.Rows.{keyOf, wordOf, notBefore, insertRow, insertRows, sameWord}
 use Rattle.writer.specs.Stored.{Grouped}
 use Rattle.writer.proofs.Gathering.{insert-from}
@@ -53,7 +54,7 @@ module _ (folded : List ℕ) where
   -- a row that goes behind another comes after it, where its key is greater
   goes-behind : (row r : ℕ) → keyOf r < keyOf row → notBefore folded (wordOf folded row) r ≡ true → Follows folded r row
   goes-behind row r k t =
-      order-case (wordOf folded r) (wordOf folded row)
+      before-case (wordOf folded r) (wordOf folded row)
       (λ h. inl h)
       (λ e. inr (e, k))
       (λ h. false-not-true (sym (not-true (earlier (wordOf folded row) (wordOf folded r)) t) ∙ before-earlier (wordOf folded row) (wordOf folded r) h))
@@ -74,14 +75,13 @@ module _ (folded : List ℕ) where
   insert-rises row [] k h = (tt, tt)
   insert-rises row (r ∷ rows) k h =
       bool-case (notBefore folded (wordOf folded row) r)
-      (λ t. subst (Rise (Follows folded)) (sym (insert-behind row r rows t)) (
-        member-each (Follows folded r) (insertRow folded row rows)
-            (λ x m. ⊎-elim
-            (λ (e : x ≡ row). subst (Follows folded r) (sym e) (goes-behind row r (k .0) t))
-            (λ (n : List·Memᴰ x rows). each-member (Follows folded r) rows x (h .0) n)
-            (insert-from folded row x rows m)),
-        insert-rises row rows (k .1) (h .1),
-      ))
+      (λ t. subst (Rise (Follows folded)) (sym (insert-behind row r rows t))
+      (member-each (Follows folded r) (insertRow folded row rows)
+      (λ x m. ⊎-elim
+      (λ (e : x ≡ row). subst (Follows folded r) (sym e) (goes-behind row r (k .0) t))
+      (λ (n : List·Memᴰ x rows). each-member (Follows folded r) rows x (h .0) n)
+      (insert-from folded row x rows m)),
+      insert-rises row rows (k .1) (h .1)))
       (λ t. let b = goes-before row r t in
       subst (Rise (Follows folded)) (sym (insert-here row r rows t))
       ((inl b, member-each (Follows folded row) rows (λ x m. before-follows row r x b (each-member (Follows folded r) rows x (h .0) m))), h))
@@ -125,7 +125,7 @@ module _ (folded : List ℕ) where
   grouped last [] e h = tt
   grouped last (r ∷ rows) e h = (
     λ q. ⊎-elim
-        (λ (b : Before (wordOf folded last) (wordOf folded r)). absurd (before-never (wordOf folded r) (subst (λ x. Before x (wordOf folded r)) q b)))
+        (λ (b : Before (wordOf folded last) (wordOf folded r)). absurd (before-irrefl (wordOf folded r) (subst (λ x. Before x (wordOf folded r)) q b)))
         (λ (b : (wordOf folded last ≡ wordOf folded r) × (keyOf last < keyOf r)). omega arith)
         (e .0),
     grouped r rows (h .0) (h .1),
@@ -162,11 +162,10 @@ module _ (folded : List ℕ) where
   kept-rises R w [] f h = tt
   kept-rises R w (r ∷ rows) f h =
       bool-case (sameWord folded w r)
-      (λ t. subst (λ b. Rise ByKey (keepIf b r (kept folded w rows))) (sym t) (
-        member-each (ByKey r) (kept folded w rows)
-            (λ x m. let k = kept-from w rows x m in f r x (sym (same-true w (wordOf folded r) t)) (k .0) (each-member (R r) rows x (h .0) (k .1))),
-        kept-rises R w rows f (h .1),
-      ))
+      (λ t. subst (λ b. Rise ByKey (keepIf b r (kept folded w rows))) (sym t)
+      (member-each (ByKey r) (kept folded w rows)
+      (λ x m. let k = kept-from w rows x m in f r x (sym (same-true w (wordOf folded r) t)) (k .0) (each-member (R r) rows x (h .0) (k .1))),
+      kept-rises R w rows f (h .1)))
       (λ t. subst (λ b. Rise ByKey (keepIf b r (kept folded w rows))) (sym t) (kept-rises R w rows f (h .1)))
 
   -- sorting keeps the rows of a word as they were
@@ -182,6 +181,6 @@ module _ (folded : List ℕ) where
       same-word : (x y : ℕ) → wordOf folded x ≡ w → wordOf folded y ≡ w → Follows folded x y → keyOf x < keyOf y
       same-word x y p q h =
           ⊎-elim
-          (λ (b : Before (wordOf folded x) (wordOf folded y)). absurd (before-never w (subst (λ a. Before a w) p (subst (Before (wordOf folded x)) q b))))
+          (λ (b : Before (wordOf folded x) (wordOf folded y)). absurd (before-irrefl w (subst (λ a. Before a w) p (subst (Before (wordOf folded x)) q b))))
           (λ (b : (wordOf folded x ≡ wordOf folded y) × (keyOf x < keyOf y)). b .1)
           h
