@@ -220,7 +220,7 @@ module _ (docid : ℕ) (texts : List (List ℕ)) (ts : List Term) (i : IsDocumen
       let l = first ts (g .some) (terms-live count [] ts (g .terms) (i .live)) in
       let s = term-something count (l .0) (l .2) in
       let q = posted-here (l .0 .word) (s .0 .0) (s .0 .1 .0) (s .0 .1 .1)
-          (says-posted ts (l .0 .word) (s .0 .0) (s .0 .1 .0) (s .0 .1 .1) (record { x = l .0; member = l .1; has = refl; says = s .1 })) in
+      (says-posted ts (l .0 .word) (s .0 .0) (s .0 .1 .0) (s .0 .1 .1) (record { x = l .0; member = l .1; has = refl; says = s .1 })) in
       member-some (documentTerms docid texts) (q .term) (q .in-leaf)
     where
       first : (us : List Term) → 0 < length us → Each (LiveTerm count) us → (t : Term) × List·Memᴰ t us × LiveTerm count t

@@ -108,20 +108,27 @@ column-bytes c w (t ∷ ts) h f =
         ≤ 2 * length ps + length (encodeAll (positionNumbers 0 ps)) + length (encodeAll (columnNumbers cs))
     go [] cs = omega arith
     go (p ∷ ps) cs =
-        omega (arith, all-length (announced c) (positionNumbers 0 (p ∷ ps) ++ columnNumbers cs), all-length (positionNumbers 0 (p ∷ ps)) (columnNumbers cs),
-        announced-bytes c (omega arith))
+        omega (
+          arith,
+          all-length (announced c) (positionNumbers 0 (p ∷ ps) ++ columnNumbers cs),
+          all-length (positionNumbers 0 (p ∷ ps)) (columnNumbers cs),
+          announced-bytes c (omega arith),
+        )
 
 -- the docid, the columns and the closing 0
 list-bytes : (docid : ℕ) (w : List ℕ) (texts : List (List ℕ)) → length texts ≤ 16 → ((j : ℕ) → length (wordsOf (getD texts j [])) + 2 ≤ 16384)
     → length (encodeList (documentTerm docid texts w .entries)) ≤ 10 + 4 * count w (allWords texts)
 list-bytes docid w texts h f =
-    omega (arith, column-bytes 0 w texts (omega arith) f,
-    length-append (encodeAll ((docid - 0) ∷ (columnNumbers (columnsFrom 0 w texts) ++ (0 ∷ [])))) [],
-    length-append (encode (docid - 0)) (encodeAll (columnNumbers (columnsFrom 0 w texts) ++ (0 ∷ []))),
-    all-length (columnNumbers (columnsFrom 0 w texts)) (0 ∷ []),
-    length-append (encode 0) [],
-    encode-one 0 (omega arith),
-    encode-most 9 (docid - 0))
+    omega (
+      arith,
+      column-bytes 0 w texts (omega arith) f,
+      length-append (encodeAll ((docid - 0) ∷ (columnNumbers (columnsFrom 0 w texts) ++ (0 ∷ [])))) [],
+      length-append (encode (docid - 0)) (encodeAll (columnNumbers (columnsFrom 0 w texts) ++ (0 ∷ []))),
+      all-length (columnNumbers (columnsFrom 0 w texts)) (0 ∷ []),
+      length-append (encode 0) [],
+      encode-one 0 (omega arith),
+      encode-most 9 (docid - 0),
+    )
 
 -- ---- a term
 
@@ -138,14 +145,16 @@ stored-bytes before t n h l m =
     let p = shared before (t .word) in
     let s = shared-most before (t .word) in
     let d = length-drop (shared before (t .word)) (t .word) in
-    omega (arith,
-    length-append (encode (shared before (t .word))) (termBytes (drop (shared before (t .word)) (t .word)) (t .entries)),
-    length-append (sized (drop (shared before (t .word)) (t .word))) (sized (encodeList (t .entries))),
-    sized-length (drop (shared before (t .word)) (t .word)),
-    sized-length (encodeList (t .entries)),
-    encode-one (shared before (t .word)) (omega arith),
-    encode-one (length (drop (shared before (t .word)) (t .word))) (omega arith),
-    encode-three (length (encodeList (t .entries))) (omega arith))
+    omega (
+      arith,
+      length-append (encode (shared before (t .word))) (termBytes (drop (shared before (t .word)) (t .word)) (t .entries)),
+      length-append (sized (drop (shared before (t .word)) (t .word))) (sized (encodeList (t .entries))),
+      sized-length (drop (shared before (t .word)) (t .word)),
+      sized-length (encodeList (t .entries)),
+      encode-one (shared before (t .word)) (omega arith),
+      encode-one (length (drop (shared before (t .word)) (t .word))) (omega arith),
+      encode-three (length (encodeList (t .entries))) (omega arith),
+    )
 
 -- ---- what the words are charged
 
@@ -237,9 +246,12 @@ terms-bytes before docid texts (w ∷ ws) f =
     let r = terms-bytes w docid texts ws (λ v u m. f v u (List·Memᴰ·tail m)) in
     let p = shared before w in
     let es = documentTerm docid texts w .entries in
-    omega (arith, f before w (List·Memᴰ·head refl),
-    ap length (append-assoc (encode p) (termBytes (drop p w) es) (encodeTerms w (map (documentTerm docid texts) ws))),
-    length-append (stored before (documentTerm docid texts w)) (encodeTerms w (map (documentTerm docid texts) ws)))
+    omega (
+      arith,
+      f before w (List·Memᴰ·head refl),
+      ap length (append-assoc (encode p) (termBytes (drop p w) es) (encodeTerms w (map (documentTerm docid texts) ws))),
+      length-append (stored before (documentTerm docid texts w)) (encodeTerms w (map (documentTerm docid texts) ws)),
+    )
 
 module _ (docid : ℕ) (texts : List (List ℕ)) (h : Writable docid texts) where
   word-count : length (allWords texts) ≤ 4112
@@ -250,15 +262,23 @@ module _ (docid : ℕ) (texts : List (List ℕ)) (h : Writable docid texts) wher
       let n = distinct-from (allWords texts) w m in
       let s = word-stands texts w n in
       let l = list-bytes docid w texts (h .few) (λ j. omega (arith, text-count (getD texts j []), text-inside texts j, h .size)) in
-      omega (arith, part-covers w (allWords texts) n,
-      stored-bytes before (documentTerm docid texts w) (count w (allWords texts)) (h .short w (s .0) (s .1) (s .2)) l
-      (omega (arith, count-most w (allWords texts), word-count)))
+      omega (
+        arith,
+        part-covers w (allWords texts) n,
+        stored-bytes before (documentTerm docid texts w) (count w (allWords texts)) (h .short w (s .0) (s .1) (s .2)) l
+            (omega (arith, count-most w (allWords texts), word-count)),
+      )
 
   -- the leaf that is written is within the bound on leaves
   pub document-size : length (documentLeaf docid texts) ≤ 65536
   document-size =
-      omega (arith, ap length (document-terms-leaf docid texts),
-      terms-bytes [] docid texts (distinct (allWords texts)) word-bytes,
-      parts-most (distinct (allWords texts)) (allWords texts) (distinct-rises (allWords texts)),
-      charge-weight (allWords texts) (word-some texts),
-      document-weight texts, h .size, h .few)
+      omega (
+        arith,
+        ap length (document-terms-leaf docid texts),
+        terms-bytes [] docid texts (distinct (allWords texts)) word-bytes,
+        parts-most (distinct (allWords texts)) (allWords texts) (distinct-rises (allWords texts)),
+        charge-weight (allWords texts) (word-some texts),
+        document-weight texts,
+        h .size,
+        h .few,
+      )

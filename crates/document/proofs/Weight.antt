@@ -34,16 +34,16 @@ spread s d (q ∷ ps) low l f g =
     let h = f 0 (omega arith) in
     let n = word-length s (q .start) (q .end) (h .2) in
     let r = spread s d ps (suc (q .end)) (omega (arith, h .2))
-        (λ i k. let m = f (suc i) (omega arith) in (g 0 (suc i) (omega arith) (omega arith), m .1, m .2))
-        (λ i j k m. g (suc i) (suc j) (omega arith) (omega arith)) in
+    (λ i k. let m = f (suc i) (omega arith) in (g 0 (suc i) (omega arith) (omega arith), m .1, m .2))
+    (λ i j k m. g (suc i) (suc j) (omega arith) (omega arith)) in
     omega (arith, h .0, h .1)
 
 pub text-weight : (s : List ℕ) → weight (wordsOf s) ≤ length s + 1
 text-weight s =
     let r = spread s (record { start = 0; end = 0 }) (places s) 0 (omega arith)
-        (λ i k. let p = place-is-run s (getD (places s) i (record { start = 0; end = 0 })) .0 (member-at (places s) (record { start = 0; end = 0 }) i k) in
-        (omega arith, p .some, p .inside))
-        (places-rise s (record { start = 0; end = 0 })) in
+    (λ i k. let p = place-is-run s (getD (places s) i (record { start = 0; end = 0 })) .0 (member-at (places s) (record { start = 0; end = 0 }) i k) in
+    (omega arith, p .some, p .inside))
+    (places-rise s (record { start = 0; end = 0 })) in
     omega arith
 
 pub text-count : (s : List ℕ) → length (wordsOf s) ≤ length s + 1

@@ -156,8 +156,11 @@ module _ (text : List ℕ) (base column : ℕ) (folded before : List ℕ) (n : �
           let c = h .columns in
           let k = bounds in
           record {
-            begins = omega (arith, row-start (base + a) (base + e) column position (omega arith) (omega arith) (omega arith) (omega arith),
-                row-end (base + a) (base + e) column position (omega arith) (omega arith) (omega arith) (omega arith));
+            begins = omega (
+              arith,
+              row-start (base + a) (base + e) column position (omega arith) (omega arith) (omega arith) (omega arith),
+              row-end (base + a) (base + e) column position (omega arith) (omega arith) (omega arith) (omega arith),
+            );
             ends = omega (arith, h .stands, row-end (base + a) (base + e) column position (omega arith) (omega arith) (omega arith) (omega arith));
           }
 
@@ -257,7 +260,7 @@ module _ (s es folded before : List ℕ) (h : Gatherable s es folded before) whe
           → Gathering s es folded before after count (getD es i 0) (i + 1)
       gathering-more after count a l =
           let e : rowsFrom (i + 1) (getD es i 0) s (drop (i + 1) es) ≡ rowsFrom (suc i) (getD es i 0) s (drop (suc i) es) =
-              ap (λ j. rowsFrom j (getD es i 0) s (drop j es)) (add-one i) in
+          ap (λ j. rowsFrom j (getD es i 0) s (drop j es)) (add-one i) in
           record {
             starts = rw add-one refl;
             ends = text-ends;
@@ -270,6 +273,13 @@ module _ (s es folded before : List ℕ) (h : Gatherable s es folded before) whe
                 ∙ sym (insert-append folded (take n rows) (columnRows base i text) (rowsFrom (suc i) (getD es i 0) s (drop (suc i) es)))
                 ∙ sym (ap (insertRows folded (take n rows)) rows-step)
                 ∙ g .sorted;
-            count = omega (arith, a .all, g .count, ap length e, ap length rows-step,
-                length-append (columnRows base i text) (rowsFrom (suc i) (getD es i 0) s (drop (suc i) es)), place-rows-length base i 0 (places text));
+            count = omega (
+              arith,
+              a .all,
+              g .count,
+              ap length e,
+              ap length rows-step,
+              length-append (columnRows base i text) (rowsFrom (suc i) (getD es i 0) s (drop (suc i) es)),
+              place-rows-length base i 0 (places text),
+            );
           }

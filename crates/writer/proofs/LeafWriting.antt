@@ -6,7 +6,6 @@ use mathlib.Core.Path.{_≡_, refl, sym, ap, subst, _∙_}
 use mathlib.Core.Bool.{Bool, true, false}
 use mathlib.Core.List.{List, [], _∷_, _++_, map}
 use lib.ListN.{length, getD, take, replicate, length-take, length-map, length-replicate}
-
 use borrow.Author.Tests.{le-leb, lt-leb}
 use Rattle.common.specs.Pick.{pick}
 use Rattle.common.specs.Bytes.{over}

@@ -44,9 +44,15 @@ row-most : (last row : ℕ) → length (encodeAll (rowNumbers last row)) ≤ 27
 row-most last row =
     pick-case (λ vs. length (encodeAll vs) ≤ 27) (eqb (columnOf row) (columnOf last)) ((positionOf row - positionOf last + 2) ∷ []) (1 ∷ columnOf row ∷ (positionOf row + 2) ∷ [])
     (λ _. omega (arith, length-append (encode (positionOf row - positionOf last + 2)) [], encode-most 9 (positionOf row - positionOf last + 2)))
-    (λ _. omega (arith, length-append (encode 1) (encode (columnOf row) ++ (encode (positionOf row + 2) ++ [])),
-    length-append (encode (columnOf row)) (encode (positionOf row + 2) ++ []), length-append (encode (positionOf row + 2)) [],
-    encode-most 9 1, encode-most 9 (columnOf row), encode-most 9 (positionOf row + 2)))
+    (λ _. omega (
+      arith,
+      length-append (encode 1) (encode (columnOf row) ++ (encode (positionOf row + 2) ++ [])),
+      length-append (encode (columnOf row)) (encode (positionOf row + 2) ++ []),
+      length-append (encode (positionOf row + 2)) [],
+      encode-most 9 1,
+      encode-most 9 (columnOf row),
+      encode-most 9 (positionOf row + 2),
+    ))
 
 -- ---- rows
 

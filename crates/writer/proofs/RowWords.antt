@@ -173,7 +173,7 @@ module _ (s folded : List ℕ) (f : Folded s folded) (small : length s ≤ 4096)
       each-append (λ r. c * 65536 ≤ keyOf r) (columnRows base c (part s base e)) (rowsFrom (suc c) e s es)
       (member-each (λ r. c * 65536 ≤ keyOf r) (columnRows base c (part s base e))
       (λ x m. let k = each-member (λ r. (c * 65536 + 0 ≤ keyOf r) × (keyOf r < suc c * 65536)) (columnRows base c (part s base e)) x
-          (place-least s folded f small base e (b .0) (b .1) c (omega arith) 0 (places (part s base e)) (few-places base e (b .1)) (places-in s folded f small base e (b .0) (b .1) c (omega arith))) m in
+      (place-least s folded f small base e (b .0) (b .1) c (omega arith) 0 (places (part s base e)) (few-places base e (b .1)) (places-in s folded f small base e (b .0) (b .1) c (omega arith))) m in
       omega (arith, k)))
       (member-each (λ r. c * 65536 ≤ keyOf r) (rowsFrom (suc c) e s es)
       (λ x m. let k = each-member (λ r. suc c * 65536 ≤ keyOf r) (rowsFrom (suc c) e s es) x (rows-least (suc c) e es (omega arith) (b .2)) m in omega (arith, k)))
@@ -188,6 +188,6 @@ module _ (s folded : List ℕ) (f : Folded s folded) (small : length s ≤ 4096)
       (rows-rise (suc c) e es (omega arith) (b .2))
       (λ x y m n.
       let k = each-member (λ r. (c * 65536 + 0 ≤ keyOf r) × (keyOf r < suc c * 65536)) (columnRows base c (part s base e)) x
-          (place-least s folded f small base e (b .0) (b .1) c (omega arith) 0 (places (part s base e)) (few-places base e (b .1)) i) m in
+      (place-least s folded f small base e (b .0) (b .1) c (omega arith) 0 (places (part s base e)) (few-places base e (b .1)) i) m in
       let l = each-member (λ r. suc c * 65536 ≤ keyOf r) (rowsFrom (suc c) e s es) y (rows-least (suc c) e es (omega arith) (b .2)) n in
       omega (arith, k, l))

@@ -75,13 +75,14 @@ module _ (folded : List ℕ) where
   insert-rises row [] k h = (tt, tt)
   insert-rises row (r ∷ rows) k h =
       bool-case (notBefore folded (wordOf folded row) r)
-      (λ t. subst (Rise (Follows folded)) (sym (insert-behind row r rows t))
-      (member-each (Follows folded r) (insertRow folded row rows)
-      (λ x m. ⊎-elim
-      (λ (e : x ≡ row). subst (Follows folded r) (sym e) (goes-behind row r (k .0) t))
-      (λ (n : List·Memᴰ x rows). each-member (Follows folded r) rows x (h .0) n)
-      (insert-from folded row x rows m)),
-      insert-rises row rows (k .1) (h .1)))
+      (λ t. subst (Rise (Follows folded)) (sym (insert-behind row r rows t)) (
+        member-each (Follows folded r) (insertRow folded row rows)
+            (λ x m. ⊎-elim
+            (λ (e : x ≡ row). subst (Follows folded r) (sym e) (goes-behind row r (k .0) t))
+            (λ (n : List·Memᴰ x rows). each-member (Follows folded r) rows x (h .0) n)
+            (insert-from folded row x rows m)),
+        insert-rises row rows (k .1) (h .1),
+      ))
       (λ t. let b = goes-before row r t in
       subst (Rise (Follows folded)) (sym (insert-here row r rows t))
       ((inl b, member-each (Follows folded row) rows (λ x m. before-follows row r x b (each-member (Follows folded r) rows x (h .0) m))), h))
@@ -162,10 +163,11 @@ module _ (folded : List ℕ) where
   kept-rises R w [] f h = tt
   kept-rises R w (r ∷ rows) f h =
       bool-case (sameWord folded w r)
-      (λ t. subst (λ b. Rise ByKey (keepIf b r (kept folded w rows))) (sym t)
-      (member-each (ByKey r) (kept folded w rows)
-      (λ x m. let k = kept-from w rows x m in f r x (sym (same-true w (wordOf folded r) t)) (k .0) (each-member (R r) rows x (h .0) (k .1))),
-      kept-rises R w rows f (h .1)))
+      (λ t. subst (λ b. Rise ByKey (keepIf b r (kept folded w rows))) (sym t) (
+        member-each (ByKey r) (kept folded w rows)
+            (λ x m. let k = kept-from w rows x m in f r x (sym (same-true w (wordOf folded r) t)) (k .0) (each-member (R r) rows x (h .0) (k .1))),
+        kept-rises R w rows f (h .1),
+      ))
       (λ t. subst (λ b. Rise ByKey (keepIf b r (kept folded w rows))) (sym t) (kept-rises R w rows f (h .1)))
 
   -- sorting keeps the rows of a word as they were

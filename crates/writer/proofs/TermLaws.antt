@@ -34,8 +34,13 @@ module _ (before w : List ℕ) where
 
   word-sized : length (wordBytes before w) ≡ length (encode (shared before w)) + length (encode (length w - shared before w)) + (length w - shared before w)
   word-sized =
-      omega (arith, word-length, length-append (encode (length (drop (shared before w) w))) (drop (shared before w) w), suffix-length,
-      ap (λ k. length (encode k)) suffix-length)
+      omega (
+        arith,
+        word-length,
+        length-append (encode (length (drop (shared before w) w))) (drop (shared before w) w),
+        suffix-length,
+        ap (λ k. length (encode k)) suffix-length,
+      )
 
   -- what is lent of the word is its suffix
   pub suffix-lent : (p : ℕ) → p ≡ shared before w → take (length w - p) (drop p w) ≡ drop (shared before w) w
@@ -52,8 +57,16 @@ module _ (before w : List ℕ) (docid : ℕ) (rows : List ℕ) where
 
   pub term-most : length w ≤ 4096 → length (termOf before w docid rows) ≤ 4141 + 27 * length rows
   term-most h =
-      omega (arith, term-length, word-sized before w, postings-length docid rows, list-most docid rows,
-      encode-most 9 (shared before w), encode-most 9 (length w - shared before w), encode-most 9 (length (listBytes docid rows)))
+      omega (
+        arith,
+        term-length,
+        word-sized before w,
+        postings-length docid rows,
+        list-most docid rows,
+        encode-most 9 (shared before w),
+        encode-most 9 (length w - shared before w),
+        encode-most 9 (length (listBytes docid rows)),
+      )
 
   -- its size, added up
   pub term-sized : (p n : ℕ) → p ≡ shared before w → n ≡ length (listBytes docid rows)
@@ -131,12 +144,16 @@ terms-most zero folded docid last rows h = omega arith
 terms-most (suc most) folded docid last [] h = omega arith
 terms-most (suc most) folded docid last (r ∷ rows) h =
     let n = runOf folded (r ∷ rows) in
-    omega (arith,
-    length-append (termOf (wordOf folded last) (wordOf folded r) docid (take n (r ∷ rows))) (termsFrom most folded docid r (drop n (r ∷ rows))),
-    term-most (wordOf folded last) (wordOf folded r) docid (take n (r ∷ rows)) (omega (arith, word-most folded r)),
-    terms-most most folded docid r (drop n (r ∷ rows)) h,
-    length-take n (r ∷ rows), length-drop n (r ∷ rows),
-    run-some folded (r ∷ rows) (omega arith), run-most folded (r ∷ rows))
+    omega (
+      arith,
+      length-append (termOf (wordOf folded last) (wordOf folded r) docid (take n (r ∷ rows))) (termsFrom most folded docid r (drop n (r ∷ rows))),
+      term-most (wordOf folded last) (wordOf folded r) docid (take n (r ∷ rows)) (omega (arith, word-most folded r)),
+      terms-most most folded docid r (drop n (r ∷ rows)) h,
+      length-take n (r ∷ rows),
+      length-drop n (r ∷ rows),
+      run-some folded (r ∷ rows) (omega arith),
+      run-most folded (r ∷ rows),
+    )
 
 -- ---- a loop over the runs
 

@@ -39,7 +39,7 @@ module _ (v w : List ℕ) (i : ℕ) (so-far : i + shared (drop i v) (drop i w) �
     pub one-more : getD v i 0 ≡ getD w i 0 → (i + 1) + shared (drop (i + 1) v) (drop (i + 1) w) ≡ shared v w
     one-more q =
         let e : shared (drop i v) (drop i w) ≡ suc (shared (drop (suc i) v) (drop (suc i) w)) =
-            rw (drop-cons v i 0 h, drop-cons w i 0 k, eq-eqb (getD v i 0) (getD w i 0) q) refl in
+        rw (drop-cons v i 0 h, drop-cons w i 0 k, eq-eqb (getD v i 0) (getD w i 0) q) refl in
         let f : shared (drop (i + 1) v) (drop (i + 1) w) ≡ shared (drop (suc i) v) (drop (suc i) w) = rw add-one refl in
         omega arith
 

@@ -89,7 +89,14 @@ fn insert(folded: &[u8], rows: &mut [u64], n: usize, row: u64)
 }
 
 // Adds the rows of a column, whose text stands from `base` on in the texts, to the first `n`; how many there are then.
-fn add_column(text: &[u8], base: usize, column: usize, folded: &[u8], rows: &mut [u64], n: usize) -> usize
+fn add_column(
+    text: &[u8],
+    base: usize,
+    column: usize,
+    folded: &[u8],
+    rows: &mut [u64],
+    n: usize,
+) -> usize
     requires { ⌜ Addable (now text) base column (now folded) (now rows) n ⌝ }
     ensures { λ r. ⌜ AddedTo (now (text .entry)) base column (now (folded .entry)) (now (rows .entry)) n (now (rows .exit)) r ⌝ }
 {
@@ -99,7 +106,12 @@ fn add_column(text: &[u8], base: usize, column: usize, folded: &[u8], rows: &mut
         let Word::Found { start, end } = tokenizer::next_word(text, at) else {
             return n + position;
         };
-        insert(folded, rows, n + position, row(base + start, base + end, column, position));
+        insert(
+            folded,
+            rows,
+            n + position,
+            row(base + start, base + end, column, position),
+        );
         position += 1;
         at = end;
     }

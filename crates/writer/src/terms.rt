@@ -131,7 +131,11 @@ fn term_size(before: &[u8], w: &[u8], rows: &[u64], docid: u64) -> usize
     let prefix = words::shared_prefix(before, w);
     let suffix = w.len() - prefix;
     let list = list_size(rows, docid);
-    varint::size(prefix as u64) + varint::size(suffix as u64) + suffix + varint::size(list as u64) + list
+    varint::size(prefix as u64)
+        + varint::size(suffix as u64)
+        + suffix
+        + varint::size(list as u64)
+        + list
 }
 
 // Puts a word behind the word `before` at the front of the room: the prefix that they share, and the suffix.

@@ -63,10 +63,11 @@ cast-write-leaf c =
 write-leaf-requires : tie.Need-write-leaf-requires
 write-leaf-requires c κs =
     let z = c .before .before .before .before .before .before .before .before .before .before .before .before in
-    let n = c .before .before .first-overlong in
-    (writing (z .args .docid) (z .args .texts .now) (z .args .ends .now) (length (z .args .room .now)) (document (c .before .before .before)) (n .result) (n .ensures) (c .before .if2 .left) (z .fits .docid)
-    (natAbs (toZ w64 (ofZ w64 (z .args .docid)))) (cast (c .before .before .before)),
-    c .before .before .before .before .before .before .before .clear .ensures ∙ ap (λ k. replicate k 0) (sym (c .before .before .before .before .before .before .before .clear .kept .0)))
+    let n = c .before .before .first-overlong in (
+      writing (z .args .docid) (z .args .texts .now) (z .args .ends .now) (length (z .args .room .now)) (document (c .before .before .before)) (n .result) (n .ensures) (c .before .if2 .left) (z .fits .docid)
+          (natAbs (toZ w64 (ofZ w64 (z .args .docid)))) (cast (c .before .before .before)),
+      c .before .before .before .before .before .before .before .clear .ensures ∙ ap (λ k. replicate k 0) (sym (c .before .before .before .before .before .before .before .clear .kept .0)),
+    )
 
 same-length-3 : tie.Need-same-length-3
 same-length-3 c = search needs

@@ -83,9 +83,10 @@ shared-slice-read-put-row c = search needs
 put-row-requires : tie.Need-put-row-requires Inv-loop μ-loop
 put-row-requires c κs =
     let l = c .before .before .before .loop in
-    let rows = c .before .before .before .before .before .before .before .before .before .before .args .rows .now in
-    (rises-here (l .last) rows (l .i) (c .before .before .loop-test .taken) (l .inv .2),
-    wrote-free (l .inv .1) (encodeAll (rowNumbers (l .last) (getD rows (l .i) 0))) (row-fits (c .before .before)))
+    let rows = c .before .before .before .before .before .before .before .before .before .before .args .rows .now in (
+      rises-here (l .last) rows (l .i) (c .before .before .loop-test .taken) (l .inv .2),
+      wrote-free (l .inv .1) (encodeAll (rowNumbers (l .last) (getD rows (l .i) 0))) (row-fits (c .before .before)),
+    )
 
 add-at : tie.Need-add-at Inv-loop μ-loop
 add-at c =
@@ -110,12 +111,13 @@ loop-again c =
     let rows = c .before .before .before .before .before .before .before .before .before .before .before .before .before .before .args .rows .now in
     let h = c .before .before .before .before .before .before .loop-test .taken in
     let v = encodeAll (rowNumbers (l .last) (getD rows (l .i) 0)) in
-    let p = c .before .before .before .put-row in
-    (l .inv .0 ++ v,
-    wrote-more (l .inv .1) v (p .last .0) (p .result) (row-fits (c .before .before .before .before .before .before)) (p .ensures .0) (p .ensures .1),
-    rises-next (l .last) rows (l .i) h (l .inv .2),
-    append-assoc (l .inv .0) v (encodeAll (numbersFrom (getD rows (l .i) 0) (drop (l .i + 1) rows))) ∙ ap (λ x. l .inv .0 ++ x) (sym (numbers-next (l .last) rows (l .i) h)) ∙ l .inv .3,
-    omega (arith, l .inv .4, length-append (l .inv .0) v))
+    let p = c .before .before .before .put-row in (
+      l .inv .0 ++ v,
+      wrote-more (l .inv .1) v (p .last .0) (p .result) (row-fits (c .before .before .before .before .before .before)) (p .ensures .0) (p .ensures .1),
+      rises-next (l .last) rows (l .i) h (l .inv .2),
+      append-assoc (l .inv .0) v (encodeAll (numbersFrom (getD rows (l .i) 0) (drop (l .i + 1) rows))) ∙ ap (λ x. l .inv .0 ++ x) (sym (numbers-next (l .last) rows (l .i) h)) ∙ l .inv .3,
+      omega (arith, l .inv .4, length-append (l .inv .0) v),
+    )
 
 sub-put-number : tie.Need-sub-put-number Inv-loop μ-loop
 sub-put-number c = wrote-within (c .before .loop .inv .1)

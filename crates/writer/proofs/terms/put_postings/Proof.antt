@@ -28,9 +28,10 @@ list-size-requires c κs = search needs
 put-number-requires : tie.Need-put-number-requires
 put-number-requires c κs =
     let z = c .before .before .before .before in
-    let e = c .list-size .ensures in
-    (omega (arith, e, list-most (z .args .docid) (z .args .rows .now), z .pre .0 .2),
-    omega (arith, z .pre .1, postings-length (z .args .docid) (z .args .rows .now), ap (λ n. length (encode n)) e))
+    let e = c .list-size .ensures in (
+      omega (arith, e, list-most (z .args .docid) (z .args .rows .now), z .pre .0 .2),
+      omega (arith, z .pre .1, postings-length (z .args .docid) (z .args .rows .now), ap (λ n. length (encode n)) e),
+    )
 
 sub-put-list : tie.Need-sub-put-list
 sub-put-list c = wrote-within (sized-length (c .before .before))
@@ -43,9 +44,11 @@ part-put-list-end c = search needs
 
 put-list-requires : tie.Need-put-list-requires
 put-list-requires c κs =
-    let z = c .before .before .before .before .before .before .before .before in
-    (z .pre .0 .0, z .pre .0 .1,
-    wrote-free (sized-length (c .before .before .before)) (listBytes (z .args .docid) (z .args .rows .now)) (omega (arith, z .pre .1, postings-length (z .args .docid) (z .args .rows .now))))
+    let z = c .before .before .before .before .before .before .before .before in (
+      z .pre .0 .0,
+      z .pre .0 .1,
+      wrote-free (sized-length (c .before .before .before)) (listBytes (z .args .docid) (z .args .rows .now)) (omega (arith, z .pre .1, postings-length (z .args .docid) (z .args .rows .now))),
+    )
 
 add-result : tie.Need-add-result
 add-result c =
@@ -60,7 +63,7 @@ returns c =
     let z = c .before .before .before .before .before .before .before .before .before .before .before in
     let p = c .before .before .put-list in
     let w = wrote-more (sized-length (c .before .before .before .before .before .before)) (listBytes (z .args .docid) (z .args .rows .now)) (p .last .0) (p .result)
-        (omega (arith, z .pre .1, postings-length (z .args .docid) (z .args .rows .now))) (p .ensures .0) (p .ensures .1) in
+    (omega (arith, z .pre .1, postings-length (z .args .docid) (z .args .rows .now))) (p .ensures .0) (p .ensures .1) in
     (w .ends, w .is)
 
 pub put-postings-spec : {M : Type 1} → statement M

@@ -31,9 +31,12 @@ other c =
 room : (c : tie.Else1) → length (encode 1) + length (encode (c .before .before .before .column-of .result)) + length (encode (c .before .before .position-of .result + 2)) ≤ length (c .before .before .before .before .before .args .out .now)
 room c =
     let z = c .before .before .before .before .before in
-    omega (arith, z .pre .1,
-    row-other-length (z .args .last) (z .args .row) (c .before .before .before .column-of .result) (c .before .before .position-of .result) (c .before .before .before .column-of .ensures) (c .before .before .position-of .ensures)
-    (c .before .column-of2 .result) (c .before .column-of2 .ensures) (c .if1 .left))
+    omega (
+      arith,
+      z .pre .1,
+      row-other-length (z .args .last) (z .args .row) (c .before .before .before .column-of .result) (c .before .before .position-of .result) (c .before .before .before .column-of .ensures) (c .before .before .position-of .ensures)
+          (c .before .column-of2 .result) (c .before .column-of2 .ensures) (c .if1 .left),
+    )
 
 -- what stands in the room after each number
 one : (c : tie.After-put-number2) → Wrote (c .before .before .before .before .before .before .before .args .out .now) (c .put-number2 .last .0) (encode 1) (c .put-number2 .result)
@@ -121,7 +124,7 @@ same-length-2 c = search needs
 returns-2 : tie.Need-returns-2
 returns-2 c =
     let w = wrote-more (two (c .before .before .before .before .before .before)) (encode (c .before .before .before .before .before .before .before .before .before .before .before .before .before .before .position-of .result + 2)) (c .before .before .put-number4 .last .0) (c .before .before .put-number4 .result)
-        (omega (arith, room (c .before .before .before .before .before .before .before .before .before .before .before .before), announced-length (c .before .before .before .before .before .before))) (c .before .before .put-number4 .ensures .0) (c .before .before .put-number4 .ensures .1) in
+    (omega (arith, room (c .before .before .before .before .before .before .before .before .before .before .before .before), announced-length (c .before .before .before .before .before .before))) (c .before .before .put-number4 .ensures .0) (c .before .before .put-number4 .ensures .1) in
     let e = other (c .before .before .before .before .before .before .before .before .before .before .before .before) in
     (w .ends ∙ sym (ap length e), w .is ∙ sym (ap (λ l. over l (c .before .before .before .before .before .before .before .before .before .before .before .before .before .before .before .before .before .args .out .now)) e))
 

@@ -46,7 +46,7 @@ returns : tie.Need-returns
 returns c =
     let z = c .before .before .before .before .before .before .before .before .before .before in
     let w = wrote-more (sized-length (c .before .before .before .before .before .before)) (z .args .bytes .now) (c .before .before .put-bytes .last .0) (length (z .args .bytes .now))
-        (omega (arith, z .pre, length-append (encode (length (z .args .bytes .now))) (z .args .bytes .now))) refl (c .before .before .put-bytes .ensures) in
+    (omega (arith, z .pre, length-append (encode (length (z .args .bytes .now))) (z .args .bytes .now))) refl (c .before .before .put-bytes .ensures) in
     (w .ends, w .is)
 
 pub put-sized-spec : {M : Type 1} → statement M

@@ -75,7 +75,7 @@ returns c =
     let e = suffix-lent (a .before .now) (a .w .now) (c .before .before .before .before .before .before .before .before .before .shared-prefix .result) (c .before .before .before .before .before .before .before .before .before .shared-prefix .ensures) in
     let v = sized (drop (shared (a .before .now) (a .w .now)) (a .w .now)) in
     let w = wrote-more (prefix (c .before .before .before .before .before .before .before)) v (p .last .0) (p .result) (omega (arith, c .before .before .before .before .before .before .before .before .before .before .before .before .before .pre, word-length (a .before .now) (a .w .now)))
-        (p .ensures .0 ∙ ap (λ s. length (sized s)) e) (p .ensures .1 ∙ ap (λ s. over (sized s) (take (length (c .before .before .before .before .before .before .before .put-number .last .0) - c .before .before .before .before .before .before .before .put-number .result) (drop (c .before .before .before .before .before .before .before .put-number .result) (c .before .before .before .before .before .before .before .put-number .last .0)))) e) in
+    (p .ensures .0 ∙ ap (λ s. length (sized s)) e) (p .ensures .1 ∙ ap (λ s. over (sized s) (take (length (c .before .before .before .before .before .before .before .put-number .last .0) - c .before .before .before .before .before .before .before .put-number .result) (drop (c .before .before .before .before .before .before .before .put-number .result) (c .before .before .before .before .before .before .before .put-number .last .0)))) e) in
     (w .ends, w .is)
 
 pub put-word-spec : {M : Type 1} → statement M

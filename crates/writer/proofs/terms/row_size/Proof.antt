@@ -59,9 +59,14 @@ add-result-2 c = omega (arith, c .before .before .size2 .ensures, c .before .siz
 returns-2 : tie.Need-returns-2
 returns-2 c =
     let z = c .before .before .before .before .before .before .before in
-    omega (arith, c .before .before .size2 .ensures, c .before .size3 .ensures, c .size4 .ensures,
-    row-other-length (z .args .last) (z .args .row) (c .before .before .before .before .before .before .column-of .result) (c .before .before .before .before .before .position-of .result) (c .before .before .before .before .before .before .column-of .ensures) (c .before .before .before .before .before .position-of .ensures)
-    (c .before .before .before .before .column-of2 .result) (c .before .before .before .before .column-of2 .ensures) (c .before .before .before .if1 .left))
+    omega (
+      arith,
+      c .before .before .size2 .ensures,
+      c .before .size3 .ensures,
+      c .size4 .ensures,
+      row-other-length (z .args .last) (z .args .row) (c .before .before .before .before .before .before .column-of .result) (c .before .before .before .before .before .position-of .result) (c .before .before .before .before .before .before .column-of .ensures) (c .before .before .before .before .before .position-of .ensures)
+          (c .before .before .before .before .column-of2 .result) (c .before .before .before .before .column-of2 .ensures) (c .before .before .before .if1 .left),
+    )
 
 pub row-size-spec : {M : Type 1} → statement M
 row-size-spec =

@@ -55,8 +55,13 @@ returns c =
     let z = c .before .before .before .before .before .before .before .before in
     let p = c .before .before .before .before .shared-prefix in
     let n = c .before .before .before .list-size in
-    omega (arith, c .before .before .size .ensures, c .before .size2 .ensures, c .size3 .ensures,
-    term-sized (z .args .before .now) (z .args .w .now) (z .args .docid) (z .args .rows .now) (p .result) (n .result) (p .ensures) (n .ensures))
+    omega (
+      arith,
+      c .before .before .size .ensures,
+      c .before .size2 .ensures,
+      c .size3 .ensures,
+      term-sized (z .args .before .now) (z .args .w .now) (z .args .docid) (z .args .rows .now) (p .result) (n .result) (p .ensures) (n .ensures),
+    )
 
 pub term-size-spec : {M : Type 1} → statement M
 term-size-spec =

@@ -118,10 +118,11 @@ loop-again c =
     let z = c .before .before .before .before .before .before .before .before .before .before .before .before in
     let l = c .before .before .before .before .before .before .before .before .before .loop in
     let w = c .before .before .before .before .before .before .word-of in
-    let n = c .before .before .before .before .run in
-    (l .inv .0 - 1,
-    runs-next (z .args .folded .now) (z .args .rows .now) (z .pre) (l .last) (l .i) (l .inv .0) (l .inv .1) (c .before .before .before .before .before .before .before .before .loop-test .taken) (w .result .now) (n .result) (w .ensures) (n .ensures) (l .i + n .result) refl,
-    omega (arith, split (c .before), l .inv .2))
+    let n = c .before .before .before .before .run in (
+      l .inv .0 - 1,
+      runs-next (z .args .folded .now) (z .args .rows .now) (z .pre) (l .last) (l .i) (l .inv .0) (l .inv .1) (c .before .before .before .before .before .before .before .before .loop-test .taken) (w .result .now) (n .result) (w .ensures) (n .ensures) (l .i + n .result) refl,
+      omega (arith, split (c .before), l .inv .2),
+    )
 
 returns : tie.Need-returns Inv-loop μ-loop
 returns c =
