@@ -14,10 +14,17 @@ import sys
 import ground_cases
 import leaf_cases
 import query_cases
+import search_cases
 import writer_cases
 
 ROOT = os.path.dirname(os.path.dirname(os.path.abspath(__file__)))
-PROGRAMS = {"cases_ground": ground_cases.make, "cases_leaf": leaf_cases.make, "cases_query": query_cases.make, "cases_writer": writer_cases.make}
+PROGRAMS = {
+    "cases_ground": ground_cases.make,
+    "cases_leaf": leaf_cases.make,
+    "cases_query": query_cases.make,
+    "cases_writer": writer_cases.make,
+    "cases_search": search_cases.make,
+}
 
 
 def files(program):

@@ -1,0 +1,198 @@
+-- How the list grows from row to row. Between the docids of two rows there is no row, and where there is no row no word of
+-- the query stands, so nothing is satisfied there.
+use Prim.Native.Nat.{ℕ, zero, suc, _+_, _≤_, _<_}
+use native.Mathlib.Numerals.{add-one}
+use native.Mathlib.Omega.{arith}
+use mathlib.Core.Path.{_≡_, refl, sym, _∙_, subst}
+use mathlib.Core.Logic.{⊎-elim}
+use mathlib.Core.Bool.{Bool, true, false}
+use mathlib.Core.List.{List, [], _∷_, _++_, List·Memᴰ, List·Memᴰ·not-nil, List·Memᴰ·cases-cons, List·Memᴰ·append-cases}
+use lib.ListN.{length}
+use Rattle.common.proofs.Cases.{false-not-true}
+use Rattle.doclist.specs.Doclist.{Entry, docidLimit}
+use Rattle.lexer.specs.Token.{QueryWord, Tie, begins, continues, Node, phraseNodes}
+use Rattle.query.specs.Tree.{Tree, leaf, joined, linkNodes, treeNodes}
+use Rattle.meaning.specs.Satisfies.{Live, StandsAt, Satisfies}
+use Rattle.meaning.specs.Listing.{Lists}
+use Rattle.meaning.proofs.Some.{Worded, WordedTree, firstWords, holds-some}
+use Rattle.row.specs.Row.{bodiesSize}
+use Rattle.chain.specs.Chains.{wordAt, Agrees, maxCandidates}
+use Rattle.cursors.specs.Groups.{Group, hitsAt, moved, EveryList, Every, BeginsFrom, From, Begins, NextIs}
+use Rattle.cursors.specs.Arrays.{CursorsAre}
+use Rattle.cursors.specs.declared.Next.{Next}
+use Rattle.cursors.specs.declared.Next.the-variants.{Docid, End}
+use Rattle.cursors.proofs.Each.{ordered}
+use Rattle.cursors.proofs.Moving.{hits-moved, from-moved, hits-none, hits-end}
+use Rattle.evaluate.specs.Evaluate.{FilledTree}
+use Rattle.engine.specs.Rows.{RowTells}
+use Rattle.engine.proofs.Judging.{Judged}
+use Rattle.engine.proofs.Below.{ListsBelow, lists-none, lists-skip, lists-more, lists-all}
+
+-- ---- the first words of a tree's chains are among its words
+
+-- the word is one of the nodes'
+pub record Among (w : QueryWord) (nodes : List Node) : Type 0 where
+  pub number : ℕ
+  pub inside : number < length nodes
+  pub same : wordAt nodes number ≡ w
+
+among-next : (w : QueryWord) (n : Node) (nodes : List Node) → Among w nodes → Among w (n ∷ nodes)
+among-next w n nodes a = record { number = suc (a .number); inside = let h = a .inside in omega arith; same = a .same }
+
+among-left : (w : QueryWord) (ms nodes : List Node) → Among w ms → Among w (ms ++ nodes)
+among-left w [] nodes a = absurd (let h = a .inside in omega arith)
+among-left w (m ∷ ms) nodes a = from (a .number) (a .inside) (a .same) (among-left w ms nodes)
+  where
+    from : (i : ℕ) → i < suc (length ms) → wordAt (m ∷ ms) i ≡ w → (Among w ms → Among w (ms ++ nodes)) → Among w (m ∷ (ms ++ nodes))
+    from zero h e f = record { number = 0; inside = omega arith; same = e }
+    from (suc i) h e f = among-next w m (ms ++ nodes) (f (record { number = i; inside = omega arith; same = e }))
+
+among-right : (w : QueryWord) (ms nodes : List Node) → Among w nodes → Among w (ms ++ nodes)
+among-right w [] nodes a = a
+among-right w (m ∷ ms) nodes a = among-next w m (ms ++ nodes) (among-right w ms nodes a)
+
+among-phrase : (w : QueryWord) (t : Tie) (columns : ℕ) (ws : List QueryWord) → List·Memᴰ w ws → Among w (phraseNodes t columns ws)
+among-phrase w t columns [] m = absurd (List·Memᴰ·not-nil m)
+among-phrase w t columns (v ∷ ws) m =
+    ⊎-elim
+    (λ e. record { number = 0; inside = omega arith; same = sym e })
+    (λ n. among-next w (record { tie = t; word = v; columns = columns }) (phraseNodes continues columns ws) (among-phrase w continues columns ws n))
+    (List·Memᴰ·cases-cons m)
+
+first-among : (w : QueryWord) (t : Tree) → List·Memᴰ w (firstWords t) → Among w (treeNodes t)
+first-among w (leaf c) m =
+    among-left w (phraseNodes begins (c .first .columns) (c .first .words)) (linkNodes (c .links)) (among-phrase w begins (c .first .columns) (c .first .words) m)
+first-among w (joined o a b) m =
+    ⊎-elim
+    (λ n. among-left w (treeNodes a) (treeNodes b) (first-among w a n))
+    (λ n. among-right w (treeNodes a) (treeNodes b) (first-among w b n))
+    (List·Memᴰ·append-cases (firstWords a) m)
+
+first-worded : (ws : List QueryWord) → 0 < length ws → Worded ws
+first-worded [] h = absurd (omega arith)
+first-worded (w ∷ ws) h = tt
+
+tree-worded : (t : Tree) → FilledTree t → WordedTree t
+tree-worded (leaf c) h = first-worded (c .first .words) (h .0)
+tree-worded (joined o a b) h = (tree-worded a (h .0), tree-worded b (h .1))
+
+-- ---- a row without hits satisfies nothing
+
+pub no-row : (t : Tree) (live : Live) (groups : List Group) (d : ℕ) → FilledTree t → RowTells (treeNodes t) live groups d → hitsAt d groups ≡ [] → Satisfies live d t → ⊥
+no-row t live groups d w tells none h =
+    let s = holds-some (StandsAt live d) t (tree-worded t w) h in
+    let a = first-among (s .0) t (s .1) in
+    let column = s .2 .0 in
+    let position = s .2 .1 in
+    let stands = subst (λ v. StandsAt live d v column position) (sym (a .same)) (s .2 .2) in
+    let hit = tells .agrees (a .number) (a .inside) column position .1 stands in
+    List·Memᴰ·not-nil (subst (λ hits. List·Memᴰ (hit .0) hits) none (hit .1))
+
+-- ---- the next docid is not before any that was reached
+
+list-member : (P : List Entry → Type 0) (ls : List (List Entry)) (l : List Entry) → EveryList P ls → List·Memᴰ l ls → P l
+list-member P [] l h m = absurd (List·Memᴰ·not-nil m)
+list-member P (k ∷ ls) l h m = ⊎-elim (λ e. subst P (sym e) (h .0)) (λ n. list-member P ls l (h .1) n) (List·Memᴰ·cases-cons m)
+
+group-member : (P : List Entry → Type 0) (gs : List Group) (g : Group) → Every P gs → List·Memᴰ g gs → EveryList P (g .lists)
+group-member P [] g h m = absurd (List·Memᴰ·not-nil m)
+group-member P (k ∷ gs) g h m =
+    ⊎-elim (λ e. subst (λ x. EveryList P (x .lists)) (sym e) (h .0)) (λ n. group-member P gs g (h .1) n) (List·Memᴰ·cases-cons m)
+
+begins-from : (from d : ℕ) (gs : List Group) → From from gs → Begins d gs → from ≤ d
+begins-from from d gs f b =
+    let h = list-member (BeginsFrom from) (b .group .lists) (b .first ∷ b .others) (group-member (BeginsFrom from) gs (b .group) f (b .in-groups)) (b .in-lists) in
+    let e = b .same in
+    omega arith
+
+lists-from-zero : (ls : List (List Entry)) → EveryList (BeginsFrom 0) ls
+lists-from-zero [] = tt
+lists-from-zero ([] ∷ ls) = (tt, lists-from-zero ls)
+lists-from-zero ((e ∷ es) ∷ ls) = (omega arith, lists-from-zero ls)
+
+from-zero : (gs : List Group) → From 0 gs
+from-zero [] = tt
+from-zero (g ∷ gs) = (lists-from-zero (g .lists), from-zero gs)
+
+-- ---- on the way
+
+-- the docids below `from` are listed, and the cursors stand at or behind it; from there on the rows are those at the start
+pub record Progress (leaves docids bodies lasts masks follows : List ℕ) (n : ℕ) (tree : Tree) (live : Live) (start : List Group) (next : Next) (from : ℕ) (listed : List ℕ) : Type 0 where
+  pub groups : List Group
+  pub cursors-are : CursorsAre leaves docids bodies lasts masks follows n groups
+  pub next-is : NextIs groups next
+  pub reached : From from groups
+  pub same : (d : ℕ) → from ≤ d → hitsAt d groups ≡ hitsAt d start
+  pub lists : ListsBelow (λ d. Satisfies live d tree) from listed
+
+module _ {leaves lasts masks follows : List ℕ} {n : ℕ} {tree : Tree} {live : Live} {start : List Group} where
+  pub progress-start : {docids bodies : List ℕ} {next : Next} → CursorsAre leaves docids bodies lasts masks follows n start → NextIs start next
+      → Progress leaves docids bodies lasts masks follows n tree live start next 0 []
+  progress-start c e =
+      record { groups = start; cursors-are = c; next-is = e; reached = from-zero start; same = λ d h. refl; lists = lists-none (λ d. Satisfies live d tree) }
+
+  module _ (worded : FilledTree tree) (tells : (d : ℕ) → RowTells (treeNodes tree) live start d) where
+    -- where no row is left, all docids are listed
+    pub progress-end : {docids bodies : List ℕ} {next : Next} {from : ℕ} {listed : List ℕ} → Progress leaves docids bodies lasts masks follows n tree live start next from listed
+        → next ≡ End → from ≤ docidLimit → Lists (λ d. Satisfies live d tree) listed
+    progress-end {from = from} {listed = listed} p e h =
+        let gs = p .groups in
+        let none = subst (NextIs gs) e (p .next-is) in
+        lists-all (λ d. Satisfies live d tree) listed
+        (lists-skip (λ d. Satisfies live d tree) from docidLimit listed h
+        (λ d k l s. no-row tree live start d worded (tells d) (sym (p .same d k) ∙ hits-end d gs none) s)
+        (p .lists))
+
+    -- the row at the next docid
+    module _ {docids bodies : List ℕ} {next : Next} {from : ℕ} {listed : List ℕ} (p : Progress leaves docids bodies lasts masks follows n tree live start next from listed) (d : ℕ) (e : next ≡ Docid d) where
+      next-here : From d (p .groups) × Begins d (p .groups) × (d < docidLimit)
+      next-here = subst (NextIs (p .groups)) e (p .next-is)
+
+      pub next-later : from ≤ d
+      next-later = begins-from from d (p .groups) (p .reached) (next-here .1)
+
+      pub next-limit : d < docidLimit
+      next-limit = next-here .2
+
+      pub next-from : From d (p .groups)
+      next-from = next-here .0
+
+      pub next-tells : RowTells (treeNodes tree) live (p .groups) d
+      next-tells =
+          let s = sym (p .same d next-later) in
+          record {
+            agrees = subst (Agrees (StandsAt live d) (treeNodes tree)) s (tells d .agrees);
+            fits = subst (λ hits. bodiesSize hits ≤ maxCandidates) s (tells d .fits);
+          }
+
+      -- no docid from `from` up to it is listed
+      nothing-between : ListsBelow (λ k. Satisfies live k tree) d listed
+      nothing-between =
+          lists-skip (λ k. Satisfies live k tree) from d listed next-later
+          (λ k l m s. no-row tree live start k worded (tells k) (sym (p .same k l) ∙ hits-none d k (p .groups) (ordered (p .cursors-are)) next-from m) s)
+          (p .lists)
+
+      -- the cursors went on
+      module _ {docids₁ bodies₁ : List ℕ} {next₁ : Next} {holds : Bool} (j : Judged leaves docids₁ bodies₁ lasts masks follows n d tree live (p .groups) next₁ holds) where
+        goes-on : (more : List ℕ) → ListsBelow (λ k. Satisfies live k tree) (d + 1) more → Progress leaves docids₁ bodies₁ lasts masks follows n tree live start next₁ (d + 1) more
+        goes-on more l =
+            record {
+              groups = moved d (p .groups);
+              cursors-are = j .cursors-are;
+              next-is = j .next-is;
+              reached = rw add-one (from-moved d (p .groups) (ordered (p .cursors-are)) next-from);
+              same = λ k h. hits-moved d k (λ e. absurd (omega arith)) (p .groups) ∙ p .same k (let m = next-later in omega arith);
+              lists = l;
+            }
+
+        pub progress-yes : holds ≡ true → Progress leaves docids₁ bodies₁ lasts masks follows n tree live start next₁ (d + 1) (listed ++ d ∷ [])
+        progress-yes h = goes-on (listed ++ d ∷ []) (lists-more (λ k. Satisfies live k tree) d listed (j .judged .0 h) nothing-between)
+
+        pub progress-no : holds ≡ false → Progress leaves docids₁ bodies₁ lasts masks follows n tree live start next₁ (d + 1) listed
+        progress-no h =
+            goes-on listed
+            (lists-skip (λ k. Satisfies live k tree) d (d + 1) listed (omega arith)
+            (λ k l m s.
+            let e : k ≡ d = omega arith in
+            false-not-true (sym h ∙ j .judged .1 (subst (λ k. Satisfies live k tree) e s)))
+            nothing-between)

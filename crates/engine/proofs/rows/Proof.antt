@@ -1,0 +1,159 @@
+-- `rows` meets its contract. The loop's invariant, `Going`: the docids below `from` that satisfy the query are listed, and the
+-- cursors stand at or behind it. The measure is what is left up to the largest docid.
+use Prim.Native.Nat.{_-_}
+use native.Mathlib.Omega.{arith}
+use mathlib.Core.Path.{refl}
+use lib.ListN.{length}
+use borrow.Author.Needs.{needs}
+use Rattle.doclist.specs.Doclist.{docidLimit}
+use Rattle.engine.proofs.Going.{Going, going-start, going-count, going-end, going-back, going-past, going-on}
+use Rattle.engine.proofs.rows.Statement.{statement}
+use Rattle.engine.proofs.rows.Tie as tie
+
+abbrev Inv-loop : tie.InvT-loop
+Inv-loop leaves docids₀ bodies₀ lasts masks follows n room₀ words ties distances columns ops codes starts₀ matched₀ marks₀ spare₀ next₀ from₀ count₀ docids bodies room starts matched marks spare next from count = Going (record { words = words; ops = ops }) leaves docids₀ bodies₀ lasts masks follows n (length room₀) docids bodies starts matched marks spare room next from count
+
+abbrev μ-loop : tie.MeasureT-loop
+μ-loop leaves docids₀ bodies₀ lasts masks follows n room₀ words ties distances columns ops codes starts₀ matched₀ marks₀ spare₀ next₀ from₀ count₀ docids bodies room starts matched marks spare next from count = docidLimit - from
+
+least-requires : tie.Need-least-requires Inv-loop μ-loop
+least-requires c κs = search needs
+
+loop-holds : tie.Need-loop-holds Inv-loop μ-loop
+loop-holds c = going-start (c .least .ensures .1) (c .before .before .before .before .before .before .before .before .before .before .before .before .before .before .pre) refl refl refl refl
+
+enum-known-next : tie.Need-enum-known-next Inv-loop μ-loop
+enum-known-next c = search needs
+
+enum-told : tie.Need-enum-told Inv-loop μ-loop
+enum-told c = search needs
+
+same-length : tie.Need-same-length Inv-loop μ-loop
+same-length c = search needs
+
+same-length-2 : tie.Need-same-length-2 Inv-loop μ-loop
+same-length-2 c = search needs
+
+same-length-3 : tie.Need-same-length-3 Inv-loop μ-loop
+same-length-3 c = search needs
+
+returns : tie.Need-returns Inv-loop μ-loop
+returns c = going-end (c .before .before .loop .inv) (c .enum-told .given .1)
+
+same-length-4 : tie.Need-same-length-4 Inv-loop μ-loop
+same-length-4 c = search needs
+
+same-length-5 : tie.Need-same-length-5 Inv-loop μ-loop
+same-length-5 c = search needs
+
+same-length-6 : tie.Need-same-length-6 Inv-loop μ-loop
+same-length-6 c = search needs
+
+returns-2 : tie.Need-returns-2 Inv-loop μ-loop
+returns-2 c = going-back (c .before .before .before .before .loop .inv) _ (c .before .before .next .given .1) (c .if1 .taken)
+
+same-length-7 : tie.Need-same-length-7 Inv-loop μ-loop
+same-length-7 c = search needs
+
+same-length-8 : tie.Need-same-length-8 Inv-loop μ-loop
+same-length-8 c = search needs
+
+same-length-9 : tie.Need-same-length-9 Inv-loop μ-loop
+same-length-9 c = search needs
+
+returns-3 : tie.Need-returns-3 Inv-loop μ-loop
+returns-3 c = going-past (c .before .before .before .before .before .loop .inv) _ (c .before .before .before .next .given .1) (c .if2 .taken)
+
+slice-aggregate-advance : tie.Need-slice-aggregate-advance Inv-loop μ-loop
+slice-aggregate-advance c = search needs
+
+slice-aggregate-advance-2 : tie.Need-slice-aggregate-advance-2 Inv-loop μ-loop
+slice-aggregate-advance-2 c = search needs
+
+advance-requires : tie.Need-advance-requires Inv-loop μ-loop
+advance-requires c κs = search needs
+
+slice-aggregate-holds : tie.Need-slice-aggregate-holds Inv-loop μ-loop
+slice-aggregate-holds c = search (needs, c .before .before .before .before .before .before .before .before .before .before .before .before .before .before .before .before .before .before .before .before .before .before .before .before .before .before .before .before .before .before .before .before .good)
+
+slice-aggregate-holds-2 : tie.Need-slice-aggregate-holds-2 Inv-loop μ-loop
+slice-aggregate-holds-2 c = search (needs, c .before .before .before .before .before .before .before .before .before .before .before .before .before .before .before .before .before .before .before .before .before .before .before .before .before .before .before .before .before .before .before .before .before .good)
+
+slice-aggregate-holds-3 : tie.Need-slice-aggregate-holds-3 Inv-loop μ-loop
+slice-aggregate-holds-3 c = search (needs, c .before .before .before .before .before .before .before .before .before .before .before .before .before .before .before .before .before .before .before .before .before .before .before .before .before .before .before .before .before .before .before .before .before .before .good)
+
+slice-aggregate-holds-4 : tie.Need-slice-aggregate-holds-4 Inv-loop μ-loop
+slice-aggregate-holds-4 c = search (needs, c .before .before .before .before .before .before .before .before .before .before .before .before .before .before .before .before .before .before .before .before .before .before .before .before .before .before .before .before .before .before .before .before .before .before .before .good)
+
+slice-aggregate-holds-5 : tie.Need-slice-aggregate-holds-5 Inv-loop μ-loop
+slice-aggregate-holds-5 c = search needs
+
+slice-aggregate-holds-6 : tie.Need-slice-aggregate-holds-6 Inv-loop μ-loop
+slice-aggregate-holds-6 c = search needs
+
+slice-aggregate-holds-7 : tie.Need-slice-aggregate-holds-7 Inv-loop μ-loop
+slice-aggregate-holds-7 c = search needs
+
+slice-aggregate-holds-8 : tie.Need-slice-aggregate-holds-8 Inv-loop μ-loop
+slice-aggregate-holds-8 c = search needs
+
+holds-requires : tie.Need-holds-requires Inv-loop μ-loop
+holds-requires c κs = search needs
+
+note-requires : tie.Need-note-requires Inv-loop μ-loop
+note-requires c κs =
+    let k = going-count (c .before .before .before .before .before .before .before .before .before .before .before .before .before .before .before .before .before .before .before .before .before .before .before .before .before .before .before .before .loop .inv) in
+    (omega arith, c .before .before .before .before .before .before .before .before .before .before .before .before .before .before .before .before .before .before .before .before .before .before .before .if2 .left)
+
+add-from : tie.Need-add-from Inv-loop μ-loop
+add-from c = search needs
+
+loop-less : tie.Need-loop-less Inv-loop μ-loop
+loop-less c = search needs
+
+loop-again : tie.Need-loop-again Inv-loop μ-loop
+loop-again c =
+    let k = c .before .before .before .before .before .before .before .before .before .before .before .before .before .before .before .before .before .before .before .before .advance .kept in
+    let m = c .before .before .before .before .before .holds .kept in
+    going-on (c .before .before .before .before .before .before .before .before .before .before .before .before .before .before .before .before .before .before .before .before .before .before .before .before .before .before .before .before .before .before .loop .inv) _ (c .before .before .before .before .before .before .before .before .before .before .before .before .before .before .before .before .before .before .before .before .before .before .before .before .before .before .before .before .next .given .1) (c .before .before .before .before .before .before .before .before .before .before .before .before .before .before .before .before .before .before .before .before .before .before .before .before .before .before .if1 .left) (c .before .before .before .before .before .before .before .before .before .before .before .before .before .before .before .before .before .before .before .before .before .before .before .before .before .if2 .left) (c .before .before .before .before .before .before .before .before .before .before .before .before .before .before .before .before .before .before .before .before .advance .result) (c .before .before .before .before .before .holds .result) (c .before .before .before .before .before .before .before .before .before .before .before .before .before .before .before .before .before .before .before .before .advance .ensures) (c .before .before .before .before .before .holds .ensures)
+    (k .1 .1 .0) (k .1 .1 .1 .0) (k .1 .1 .1 .1 .1 .1 .1 .1 .0) (k .1 .1 .1 .1 .1 .1 .1 .1 .1 .0) (m .1 .1 .1 .1 .1 .1 .1 .1 .1 .1 .0) (m .1 .1 .1 .1 .1 .1 .1 .1 .1 .1 .1 .0)
+    (c .before .note .ensures)
+
+pub rows-spec : {M : Type 1} → statement M
+rows-spec =
+    tie.close
+    (tie.spec
+    Inv-loop
+    μ-loop
+    least-requires
+    loop-holds
+    enum-known-next
+    enum-told
+    same-length
+    same-length-2
+    same-length-3
+    returns
+    same-length-4
+    same-length-5
+    same-length-6
+    returns-2
+    same-length-7
+    same-length-8
+    same-length-9
+    returns-3
+    slice-aggregate-advance
+    slice-aggregate-advance-2
+    advance-requires
+    slice-aggregate-holds
+    slice-aggregate-holds-2
+    slice-aggregate-holds-3
+    slice-aggregate-holds-4
+    slice-aggregate-holds-5
+    slice-aggregate-holds-6
+    slice-aggregate-holds-7
+    slice-aggregate-holds-8
+    holds-requires
+    note-requires
+    add-from
+    loop-less
+    loop-again)
