@@ -41,6 +41,12 @@ uint32_t fts4_deciding(const uint8_t *newer, size_t newer_len, const uint8_t *ol
                        const uint8_t *word, size_t word_len, int64_t docid,
                        uint64_t *second, uint32_t *leaf, uint64_t *start);
 
+/* Writes the leaf for one document, a docid of 0 or more and the texts of its 1 to 16 columns (together at most 4,096
+ * bytes), into the room, with zeros behind it. A document without words writes 0 bytes. Every refusal leaves the room all
+ * zeros. Answers 0 with the bytes written, 1, 5 with the first column that has a word over 64 bytes, or 4 with the need. */
+uint32_t fts4_write(int64_t docid, const uint8_t *texts, size_t texts_len, const uint32_t *ends, size_t ends_len,
+                    uint8_t *room, size_t room_len, uint64_t *second);
+
 #ifdef __cplusplus
 }
 #endif
