@@ -18,6 +18,8 @@ use Rattle.lookup.specs.declared.EntryAnswer.{EntryAnswer}
 use Rattle.lookup.specs.declared.EntryAnswer.the-variants as entry
 use Rattle.writer.specs.Answers as writer
 use Rattle.writer.specs.declared.Answer.{Answer}
+use Rattle.search.specs.Search as answers
+use Rattle.search.specs.declared.Answer as listing
 
 -- checking one leaf: the number beside every answer is 0
 pub record Checked (columns : ℕ) (leaf : List ℕ) (number second : ℕ) : Type 0 where
@@ -74,3 +76,10 @@ pub record Written (docid : ℤ) (texts ends before after : List ℕ) (number se
   pub room-is : after ≡ writer.roomOf docid texts ends (length before)
   pub number-is : number ≡ writer.number answer
   pub second-is : second ≡ writer.beside answer
+
+-- a search with a room of `n` numbers, which is `after` then
+pub record Found (x : answers.Input) (n : ℕ) (after : List ℤ) (number second : ℕ) : Type 0 where
+  pub answer : listing.Answer
+  pub right : answers.Searched x n answer after
+  pub number-is : number ≡ answers.number answer
+  pub second-is : second ≡ answers.beside answer

@@ -5,13 +5,17 @@ use lookup::EntryAnswer;
 use lookup::WordAnswer;
 use writer::Answer;
 ghost use mathlib.Core.Path.{_≡_};
+ghost use lib.ListN.{length};
 ghost use Rattle.leaf.specs.Answers.{checkNumber};
 ghost use Rattle.writer.specs.Answers.{number, beside};
-ghost use Rattle.fts4box.specs.Calls.{Checked, LookedUp, Decided, Written, wordStart, entryStart, entryLeaf};
+ghost use Rattle.search.specs.Search as answers;
+ghost use Rattle.fts4box.specs.Calls.{Checked, LookedUp, Decided, Written, Found, wordStart, entryStart, entryLeaf};
 
 const ACCEPTED: u32 = 0;
 
 const SHAPE: u32 = 1;
+
+const QUERY: u32 = 2;
 
 const LEAF: u32 = 3;
 
@@ -149,4 +153,46 @@ pub extern "C" fn fts4_write(
     let answer = writer::write(docid, texts, ends, room);
     *second = write_second(answer);
     write_number(answer)
+}
+
+fn search_number(answer: search::Answer) -> u32
+    ensures { λ r. ⌜ r ≡ answers.number answer ⌝ }
+{
+    match answer {
+        search::Answer::Found(_) => ACCEPTED,
+        search::Answer::Shape => SHAPE,
+        search::Answer::Query => QUERY,
+        search::Answer::Leaf(_) => LEAF,
+        search::Answer::Room(_) => ROOM,
+    }
+}
+
+fn search_second(answer: search::Answer) -> u64
+    ensures { λ r. ⌜ r ≡ answers.beside answer ⌝ }
+{
+    match answer {
+        search::Answer::Found(n) => n as u64,
+        search::Answer::Shape => 0,
+        search::Answer::Query => 0,
+        search::Answer::Leaf(i) => i as u64,
+        search::Answer::Room(n) => n as u64,
+    }
+}
+
+// Lists all docids that satisfy a query.
+#[no_mangle]
+pub extern "C" fn fts4_search(
+    names: &[u8],
+    name_ends: &[u32],
+    leaves: &[u8],
+    leaf_ends: &[u32],
+    query: &[u8],
+    room: &mut [i64],
+    second: &mut u64,
+) -> u32
+    ensures { λ r. ⌜ Found (record { names = now (names .entry); name-ends = now («name_ends» .entry); leaves = now (leaves .entry); leaf-ends = now («leaf_ends» .entry); query = now (query .entry) }) (length (now (room .entry))) (now (room .exit)) r (now (second .exit)) ⌝ }
+{
+    let answer = search::search(names, name_ends, leaves, leaf_ends, query, room);
+    *second = search_second(answer);
+    search_number(answer)
 }

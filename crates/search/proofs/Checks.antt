@@ -2,7 +2,7 @@
 use Prim.Native.Nat.{ℕ, _+_, _≤_, _<_}
 use native.Mathlib.Numerals.{add-one}
 use native.Mathlib.Omega.{arith}
-use mathlib.Core.Path.{_≡_, refl, sym, _∙_, subst}
+use mathlib.Core.Path.{_≡_, refl, sym, ap, _∙_, subst}
 use mathlib.Core.Logic.{_↔_}
 use mathlib.Core.Bool.{Bool, true, false}
 use mathlib.Core.List.{List, [], _∷_, _++_}
@@ -43,13 +43,13 @@ module _ (count : ℕ) (s : List ℕ) (r : LeafCheck) (k : Checked count s r) (s
 -- ---- parts of the bytes
 
 -- no part is longer than the whole
-pub short-part : (s es : List ℕ) (i : ℕ) → length (getD (cut s es) i []) ≤ length s
-short-part s es i =
+pub short-part : (s es : List ℕ) (i : ℕ) (p : List ℕ) → p ≡ getD (cut s es) i [] → length p ≤ length s
+short-part s es i p e =
     split i (length es)
     (λ h.
     let l : length (part s (startOf es i) (getD es i 0)) ≤ length s = simp (length-take, length-drop) (omega arith) in
-    subst (λ (p : List ℕ). length p ≤ length s) (sym (part-at s es i h)) l)
-    (λ h. subst (λ (p : List ℕ). length p ≤ length s) (no-part s es i h) (omega arith))
+    omega (arith, ap length (e ∙ part-at s es i h)))
+    (λ h. omega (arith, ap length (e ∙ sym (no-part s es i h))))
 
 -- ---- all leaves
 

@@ -1,7 +1,6 @@
 -- `sound_leaves` meets its contract. The loop's invariant: the first `i` leaves keep every rule.
 use Prim.Native.Nat.{_-_, _≤_}
 use native.Mathlib.Omega.{arith}
-use mathlib.Core.Path.{ap}
 use mathlib.Core.List.{List, []}
 use lib.ListN.{length, take}
 use borrow.Author.Tests.{not-true, not-false}
@@ -29,8 +28,8 @@ is-leaf-requires : tie.Need-is-leaf-requires Inv-loop μ-loop
 is-leaf-requires c κs =
     let a = c .before .before .before .before .before .args in
     let p = c .before .before .before .before .before .pre in
-    let s = short-part (a .leaves .now) (a .ends .now) (c .before .before .loop .i) in
-    (p .0, p .1, omega (arith, ap length (c .part .ensures)))
+    let s = short-part (a .leaves .now) (a .ends .now) _ _ (c .part .ensures) in
+    (p .0, p .1, omega arith)
 
 returns : tie.Need-returns Inv-loop μ-loop
 returns c =
