@@ -195,7 +195,8 @@ fn front_at(
     requires { ⌜ (base + length (now leaf) ≤ 65536) × (next ≤ length (now leaf)) × (size ≤ 64) ⌝ }
     ensures { λ r. ⌜ (r .size ≤ 64) × ((entries : List Entry) (tail : List ℕ) (columns : ℕ) → WellFormed columns entries → drop list (now (leaf .entry)) ≡ encodeList entries ++ tail → next ≡ list + length (encodeList entries) → FrontHas (now (leaf .entry)) base word size mask next entries r) ⌝ }
 {
-    let Varint::Value { value, next: body } = varint::read(leaf, list) else {
+    // A first docid is seldom below 128.
+    let Varint::Value { value, next: body } = varint::read_long(leaf, list) else {
         return no_front();
     };
     if next <= body {

@@ -3,10 +3,11 @@ use Prim.Native.Nat.{ℕ, zero, suc, _+_, _-_, _*_, _^_, _≤_, _<_}
 use native.Mathlib.Nat.{not-suc-le-zero, mul-assoc, pow-succ', mul-le-mul-left, mul-le-mul-right, mul-one, le-pred-of-lt}
 use native.Mathlib.Omega.{arith}
 use native.Mathlib.Numerals.{sub-one}
-use mathlib.Core.Path.{_≡_, refl, sym, ap, _∙_}
+use mathlib.Core.Path.{_≡_, refl, sym, ap, ap₂, _∙_}
 use mathlib.Core.List.{List}
 use lib.ListN.{length, getD}
 use borrow.Author.Tests.{lt-ltb, le-ltb, eq-eqb, ne-eqb}
+use Rattle.common.proofs.Cases.{split}
 use Rattle.varint.specs.Varint.{readFrom, readAt}
 use Rattle.varint.specs.declared.Varint.the-variants.{Value, Refused}
 use Rattle.varint.proofs.General.{pow-pos}
@@ -63,6 +64,13 @@ module _ (s : List ℕ) (i value scale : ℕ) where
   unfolding readFrom
   no-byte zero h b = refl
   no-byte (suc left) h b = simp (lt-ltb _ _ h, le-ltb (getD s i 0) 128 (omega arith), le-ltb _ _ b)
+
+-- a number of one byte
+pub one-byte : (s : List ℕ) (at : ℕ) → at < length s → getD s at 0 < 128 → readAt s at ≡ Value (getD s at 0) (at + 1)
+unfolding readFrom
+one-byte s at h b = split 0 (getD s at 0)
+    (λ p. last s at 0 1 9 (omega arith) h b p ∙ ap₂ Value (omega arith) refl)
+    (λ p. only-zero s at 0 1 9 (omega arith) h b p refl ∙ ap₂ Value (omega arith) refl)
 
 -- ---- the scale
 

@@ -39,8 +39,8 @@ pub enum Written {
     TooLarge,
 }
 
-// The number that is stored from the place `at` on.
-pub fn read(s: &[u8], at: usize) -> Varint
+// The number that is stored from the place `at` on, read byte by byte.
+pub fn read_long(s: &[u8], at: usize) -> Varint
     ensures reader { λ r. ⌜ r ≡ readAt (now (s .entry)) at ⌝ }
     ensures stored { λ r. ⌜ ((v next : ℕ) → (r ≡ Varint.Value v next) ↔ StoredAt maxBytes (now (s .entry)) at v next) ⌝ }
 {
@@ -71,6 +71,25 @@ pub fn read(s: &[u8], at: usize) -> Varint
         left -= 1;
     }
     Varint::Refused
+}
+
+// The number that is stored from the place `at` on. Most numbers take one byte, so that is tried first: this is short enough to
+// be compiled into its callers' loops.
+pub fn read(s: &[u8], at: usize) -> Varint
+    ensures reader { λ r. ⌜ r ≡ readAt (now (s .entry)) at ⌝ }
+    ensures stored { λ r. ⌜ ((v next : ℕ) → (r ≡ Varint.Value v next) ↔ StoredAt maxBytes (now (s .entry)) at v next) ⌝ }
+{
+    if s.len() <= at {
+        return Varint::Refused;
+    }
+    let b = s[at] as u64;
+    if b < TOP_BIT {
+        return Varint::Value {
+            value: b,
+            next: at + 1,
+        };
+    }
+    read_long(s, at)
 }
 
 // How many bytes a number takes: nine where it is too large to be stored.

@@ -6,8 +6,8 @@ use borrow.Author.Needs.{needs}
 use Rattle.merge.proofs.front_at.Statement.{statement}
 use Rattle.merge.proofs.front_at.Tie as tie
 
-read-requires : tie.Need-read-requires
-read-requires c κs = search needs
+read-long-requires : tie.Need-read-long-requires
+read-long-requires c κs = search needs
 
 enum-known-value : tie.Need-enum-known-value
 enum-known-value c = search needs
@@ -23,7 +23,7 @@ returns c =
     let a = c .before .before .before .before .before .args in (
       omega (arith, c .no-front .ensures),
       λ entries tail columns w e q.
-          list-not-refused (a .leaf .now) (a .base) (a .word) (a .size) (a .mask) (a .list) (a .next) entries tail columns w e q (sym (c .before .before .before .read .ensures .0) ∙ c .before .enum-told .given .1),
+          list-not-refused (a .leaf .now) (a .base) (a .word) (a .size) (a .mask) (a .list) (a .next) entries tail columns w e q (sym (c .before .before .before .read-long .ensures .0) ∙ c .before .enum-told .given .1),
     )
 
 no-front-requires-2 : tie.Need-no-front-requires-2
@@ -34,7 +34,7 @@ returns-2 c =
     let a = c .before .before .before .before .before .before .before .args in (
       omega (arith, c .no-front2 .ensures),
       λ entries tail columns w e q.
-          let k = front-has (a .leaf .now) (a .base) (a .word) (a .size) (a .mask) (a .list) (a .next) entries tail columns w e q (sym (c .before .before .before .before .before .read .ensures .0) ∙ c .before .before .before .value .given .1) in
+          let k = front-has (a .leaf .now) (a .base) (a .word) (a .size) (a .mask) (a .list) (a .next) entries tail columns w e q (sym (c .before .before .before .before .before .read-long .ensures .0) ∙ c .before .before .before .value .given .1) in
           absurd (omega (arith, k .0, c .before .if1 .taken)),
     )
 
@@ -58,14 +58,14 @@ returns-3 c =
     let a = c .before .before .before .before .before .before .args in (
       omega (arith, c .before .before .before .before .before .before .pre),
       λ entries tail columns w e q.
-          front-has (a .leaf .now) (a .base) (a .word) (a .size) (a .mask) (a .list) (a .next) entries tail columns w e q (sym (c .before .before .before .before .read .ensures .0) ∙ c .before .before .value .given .1) .1,
+          front-has (a .leaf .now) (a .base) (a .word) (a .size) (a .mask) (a .list) (a .next) entries tail columns w e q (sym (c .before .before .before .before .read-long .ensures .0) ∙ c .before .before .value .given .1) .1,
     )
 
 pub front-at-spec : {M : Type 1} → statement M
 front-at-spec =
     tie.close
     (tie.spec
-    read-requires
+    read-long-requires
     enum-known-value
     enum-told
     no-front-requires

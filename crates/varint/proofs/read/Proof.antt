@@ -1,134 +1,38 @@
--- `read` meets its contract. The loop's invariant: what is left to read gives what reading at `at` gives, and the scale
--- and the bytes that are left make up 2^63. The measure is the number of bytes that are left.
-use Prim.Native.Nat.{_-_}
+-- `read` meets its contract: a number of one byte is read at once, and any other by `read_long`.
 use native.Mathlib.Omega.{arith}
-use mathlib.Core.Path.{refl, sym, _∙_}
-use lib.ListN.{getD}
-use Rattle.varint.proofs.Steps.{none-left, past-end, last, only-zero, long-zero, Reading, digit-fits, reading-more}
+use mathlib.Core.Path.{sym}
+use borrow.Author.Needs.{needs}
+use Rattle.varint.proofs.Steps.{past-end, one-byte}
 use Rattle.varint.proofs.Laws.{reads-stored}
 use Rattle.varint.proofs.read.Statement.{statement}
 use Rattle.varint.proofs.read.Tie as tie
 
-abbrev Inv-loop : tie.InvT-loop
-Inv-loop s at value₀ scale₀ i₀ left₀ value scale i left = Reading s at value scale i left
-
-abbrev μ-loop : tie.MeasureT-loop
-μ-loop s at value₀ scale₀ i₀ left₀ value scale i left = left
-
-loop-holds : tie.Need-loop-holds Inv-loop μ-loop
-loop-holds c = record { goes-on = refl; below = omega arith; limit = refl }
-
-returns : tie.Need-returns Inv-loop μ-loop
+returns : tie.Need-returns
 returns c =
-    let l = c .before .before .loop in
-    let a = c .before .before .before .args in
-    reads-stored (a .s .now) (a .at) (sym (l .inv .goes-on ∙ past-end _ _ _ _ (l .left) (omega arith)))
-
-shared-slice-read-b : tie.Need-shared-slice-read-b Inv-loop μ-loop
-shared-slice-read-b c = omega arith
-
-cast-b : tie.Need-cast-b Inv-loop μ-loop
-cast-b c = omega (arith, c .shared-slice-known .given (c .before .before .before .loop .i))
-
-mul-t13 : tie.Need-mul-t13 Inv-loop μ-loop
-mul-t13 c =
-    let l = c .before .before .before .before .before .loop in
-    let a = c .before .before .before .before .before .before .args in
-    omega (arith, digit-fits (l .inv) (omega arith) (getD (a .s .now) (l .i) 0) (omega arith))
-
-add-t14 : tie.Need-add-t14 Inv-loop μ-loop
-add-t14 c =
-    let l = c .before .before .before .before .before .loop in
-    let a = c .before .before .before .before .before .before .args in
-    omega (arith, digit-fits (l .inv) (omega arith) (getD (a .s .now) (l .i) 0) (omega arith))
-
-add-t15 : tie.Need-add-t15 Inv-loop μ-loop
-add-t15 c = omega arith
-
-returns-2 : tie.Need-returns-2 Inv-loop μ-loop
-returns-2 c =
-    let l = c .before .before .before .before .before .loop in
-    let a = c .before .before .before .before .before .before .args in
-    reads-stored (a .s .now) (a .at) (sym (l .inv .goes-on ∙ last _ _ _ _ (l .left) (omega arith) (omega arith) (omega arith) (omega arith)))
-
-add-t16 : tie.Need-add-t16 Inv-loop μ-loop
-add-t16 c = omega arith
-
-returns-3 : tie.Need-returns-3 Inv-loop μ-loop
-returns-3 c =
-    let l = c .before .before .before .before .before .before .loop in
-    let a = c .before .before .before .before .before .before .before .args in
-    reads-stored (a .s .now) (a .at) (sym (l .inv .goes-on ∙ only-zero _ _ _ _ (l .left) (omega arith) (omega arith) (omega arith) (omega arith) (c .if4 .taken)))
-
-returns-4 : tie.Need-returns-4 Inv-loop μ-loop
-returns-4 c =
-    let l = c .before .before .before .before .before .before .loop in
-    let a = c .before .before .before .before .before .before .before .args in
-    reads-stored (a .s .now) (a .at) (sym (l .inv .goes-on ∙ long-zero _ _ _ _ (l .left) (omega arith) (omega arith) (omega arith) (omega arith) (c .if4 .left)))
-
-mul-value : tie.Need-mul-value Inv-loop μ-loop
-mul-value c =
-    let l = c .before .before .before .before .loop in
-    let a = c .before .before .before .before .before .args in
-    let y = c .before .shared-slice-known .given (l .i) in
-    omega (arith, digit-fits (l .inv) (omega arith) (getD (a .s .now) (l .i) 0 - 128) (omega arith))
-
-add-value : tie.Need-add-value Inv-loop μ-loop
-add-value c =
-    let l = c .before .before .before .before .loop in
-    let a = c .before .before .before .before .before .args in
-    let y = c .before .shared-slice-known .given (l .i) in
-    omega (arith, digit-fits (l .inv) (omega arith) (getD (a .s .now) (l .i) 0 - 128) (omega arith))
-
-mul-scale : tie.Need-mul-scale Inv-loop μ-loop
-mul-scale c =
-    let l = c .before .before .before .before .loop in
-    let a = c .before .before .before .before .before .args in
-    let y = c .before .shared-slice-known .given (l .i) in
-    omega (arith, digit-fits (l .inv) (omega arith) (getD (a .s .now) (l .i) 0 - 128) (omega arith))
-
-add-i : tie.Need-add-i Inv-loop μ-loop
-add-i c = omega arith
-
-sub-left : tie.Need-sub-left Inv-loop μ-loop
-sub-left c = omega arith
-
-loop-less : tie.Need-loop-less Inv-loop μ-loop
-loop-less c = omega arith
-
-loop-again : tie.Need-loop-again Inv-loop μ-loop
-loop-again c =
-    let l = c .before .before .before .before .loop in
-    reading-more (l .inv) (omega arith) (omega arith) (omega arith) (omega (arith, c .before .shared-slice-known .given (l .i)))
-
-returns-5 : tie.Need-returns-5 Inv-loop μ-loop
-returns-5 c =
-    let l = c .before .loop in
     let a = c .before .before .args in
-    reads-stored (a .s .now) (a .at) (sym (l .inv .goes-on ∙ none-left _ _ _ _ (l .left) (omega arith)))
+    reads-stored (a .s .now) (a .at) (sym (past-end _ _ _ _ _ (omega arith)))
+
+shared-slice-read-b : tie.Need-shared-slice-read-b
+shared-slice-read-b c = search needs
+
+cast-b : tie.Need-cast-b
+cast-b c = omega (arith, c .shared-slice-known2 .given (c .before .before .before .args .at))
+
+add-t8 : tie.Need-add-t8
+add-t8 c = search needs
+
+returns-2 : tie.Need-returns-2
+returns-2 c =
+    let a = c .before .before .before .before .args in
+    reads-stored (a .s .now) (a .at) (sym (one-byte (a .s .now) (a .at) (c .before .before .if1 .left) (c .if2 .taken)))
+
+read-long-requires : tie.Need-read-long-requires
+read-long-requires c κs = search needs
+
+returns-3 : tie.Need-returns-3
+returns-3 c = search needs
 
 pub read-spec : {M : Type 1} → statement M
 read-spec =
     tie.close
-    (tie.spec
-    Inv-loop
-    μ-loop
-    loop-holds
-    returns
-    shared-slice-read-b
-    cast-b
-    mul-t13
-    add-t14
-    add-t15
-    returns-2
-    add-t16
-    returns-3
-    returns-4
-    mul-value
-    add-value
-    mul-scale
-    add-i
-    sub-left
-    loop-less
-    loop-again
-    returns-5)
+    (tie.spec returns shared-slice-read-b cast-b add-t8 returns-2 read-long-requires returns-3)
