@@ -8,4 +8,5 @@ pub mod Unique
 pub mod Entries
 pub mod Places
 pub mod Finding
+pub mod Spots
 pub mod Examples

@@ -12,6 +12,7 @@ use Rattle.varint.specs.declared.Varint.the-variants.{Value, Refused}
 use Rattle.varint.proofs.Laws.{stored-at, next-after}
 use Rattle.doclist.specs.Doclist.{docidLimit, positionLimit}
 use Rattle.doclist.specs.Checking.{Sane, positionOf, stepOf, endedOf, checkFrom, checkOf}
+use Rattle.doclist.specs.Spots.{Checking}
 use Rattle.doclist.specs.declared.State.{State}
 use Rattle.doclist.specs.declared.State.the-variants.{Start, Between, Open, Name, Named, Broken}
 use Rattle.doclist.specs.declared.ListCheck.the-variants as list-check
@@ -62,13 +63,6 @@ module _ (count : ℕ) (s : List ℕ) (i : ℕ) (q : State) where
   check-again (suc k) v n f h e l = (k, omega arith, check-value k v n h e)
 
 -- ---- the invariant of `check`
-
--- what is left gives what checking the whole list gives
-pub record Checking (count : ℕ) (s : List ℕ) (i : ℕ) (q : State) : Type 0 where
-  pub sane : Sane q
-  pub most : ℕ
-  pub enough : length s ≤ i + most
-  pub goes-on : checkOf count s ≡ checkFrom most count s i q
 
 module _ {count : ℕ} {s : List ℕ} {i : ℕ} {q : State} (c : Checking count s i q) where
   pub checking-ends : length s ≤ i → checkOf count s ≡ endedOf q

@@ -1,3 +1,4 @@
 pub mod Doclist
 pub mod Checking
 pub mod Marked
+pub mod Spots

@@ -9,7 +9,8 @@ ghost use mathlib.Core.Logic.{_↔_};
 ghost use mathlib.Core.List.{List};
 ghost use Prim.Native.Nat.{_^_, _<_};
 ghost use Rattle.doclist.specs.Doclist.{Entry, WellFormed, encodeList, entryPlace, docidLimit, positionLimit};
-ghost use Rattle.doclist.specs.Checking.{Sane, positionOf, nextDocidOf, nextColumnOf, stepOf, endedOf, checkOf, notFoundOf, findOf};
+ghost use Rattle.doclist.specs.Spots.{spotOf, announcedOf, spotAfter, Closes};
+ghost use Rattle.doclist.specs.Checking.{Sane, positionOf, nextDocidOf, nextColumnOf, stepOf, checkOf, notFoundOf, findOf};
 
 // The number that closes an entry.
 const POS_END: u64 = 0;
@@ -56,6 +57,26 @@ pub enum State {
     },
     // A rule is broken.
     Broken,
+}
+
+// A position of an entry.
+enum Spot {
+    // In a column; the number behind it is at `next`.
+    At {
+        column: u64,
+        position: u64,
+        next: usize,
+    },
+    // A rule is broken, or the list ends.
+    Refused,
+}
+
+// Where an entry ends.
+enum Closed {
+    // Behind its closing 0.
+    At(usize),
+    // A rule is broken, or the list ends inside the entry.
+    Refused,
 }
 
 // Whether a byte string is a posting list.
@@ -165,28 +186,90 @@ fn step(q: State, v: u64, columns: u64) -> State
     }
 }
 
-// The answer where the list ends in this state.
-fn ended(q: State) -> ListCheck
-    ensures { λ r. ⌜ r ≡ endedOf q ⌝ }
+// The position that a number stands for; the number behind it is at `next`.
+fn spot_at(column: u64, base: u64, low: u64, v: u64, next: usize) -> Spot
+    requires { ⌜ (base < positionLimit) × (v < 2 ^ 63) ⌝ }
+    ensures { λ r. ⌜ r ≡ spotOf column base low v next ⌝ }
 {
-    match q {
-        State::Between { docid: _ } => ListCheck::Accepted,
-        State::Start => ListCheck::Refused,
-        State::Open {
-            docid: _,
-            column: _,
-            base: _,
-            low: _,
-        } => ListCheck::Refused,
-        State::Name {
-            docid: _,
-            column: _,
-        } => ListCheck::Refused,
-        State::Named {
-            docid: _,
-            column: _,
-        } => ListCheck::Refused,
-        State::Broken => ListCheck::Refused,
+    if v < POS_BASE {
+        return Spot::Refused;
+    }
+    let position = base + (v - POS_BASE);
+    if position < low {
+        return Spot::Refused;
+    }
+    if position < POSITION_LIMIT {
+        Spot::At {
+            column,
+            position,
+            next,
+        }
+    } else {
+        Spot::Refused
+    }
+}
+
+// The first position of the column that is announced at `at`, behind the number 1.
+fn announced(s: &[u8], at: usize, column: u64, columns: u64) -> Spot
+    ensures { λ r. ⌜ r ≡ announcedOf columns (now (s .entry)) at column ⌝ }
+{
+    let Varint::Value {
+        value: name,
+        next: behind,
+    } = varint::read(s, at)
+    else {
+        return Spot::Refused;
+    };
+    if name <= column {
+        return Spot::Refused;
+    }
+    if columns <= name {
+        return Spot::Refused;
+    }
+    let Varint::Value { value: v, next } = varint::read(s, behind) else {
+        return Spot::Refused;
+    };
+    spot_at(name, 0, 0, v, next)
+}
+
+// The position that comes next in an entry, where its next number is `v`, not 0.
+fn spot_after(s: &[u8], column: u64, base: u64, low: u64, v: u64, next: usize, columns: u64) -> Spot
+    requires { ⌜ (base < positionLimit) × (v < 2 ^ 63) ⌝ }
+    ensures { λ r. ⌜ r ≡ spotAfter columns (now (s .entry)) column base low v next ⌝ }
+{
+    if v == POS_COLUMN {
+        return announced(s, next, column, columns);
+    }
+    spot_at(column, base, low, v, next)
+}
+
+// Where the entry whose columns begin at `at` is closed.
+fn close(s: &[u8], at: usize, columns: u64) -> Closed
+    ensures { λ r. ⌜ Closes columns (now (s .entry)) at r ⌝ }
+{
+    let mut column: u64 = 0;
+    let mut base: u64 = 0;
+    let mut low: u64 = 0;
+    let mut i = at;
+    loop {
+        let Varint::Value { value: v, next } = varint::read(s, i) else {
+            return Closed::Refused;
+        };
+        if v == POS_END {
+            return Closed::At(next);
+        }
+        let Spot::At {
+            column: in_column,
+            position,
+            next: behind,
+        } = spot_after(s, column, base, low, v, next, columns)
+        else {
+            return Closed::Refused;
+        };
+        column = in_column;
+        base = position;
+        low = position + 1;
+        i = behind;
     }
 }
 
@@ -201,16 +284,34 @@ pub fn check(s: &[u8], columns: u64) -> ListCheck
     if MAX_COLUMNS < columns {
         return ListCheck::Refused;
     }
-    let mut q = State::Start;
-    let mut i = 0;
-    while i < s.len() {
-        let Varint::Value { value, next } = varint::read(s, i) else {
+    let Varint::Value {
+        value: first,
+        next: columns_at,
+    } = varint::read(s, 0)
+    else {
+        return ListCheck::Refused;
+    };
+    let mut docid = first;
+    let mut i = columns_at;
+    loop {
+        let Closed::At(end) = close(s, i, columns) else {
             return ListCheck::Refused;
         };
-        q = step(q, value, columns);
+        if s.len() <= end {
+            return ListCheck::Accepted;
+        }
+        let Varint::Value { value: v, next } = varint::read(s, end) else {
+            return ListCheck::Refused;
+        };
+        if v == 0 {
+            return ListCheck::Refused;
+        }
+        if DOCID_LIMIT - docid <= v {
+            return ListCheck::Refused;
+        }
+        docid += v;
         i = next;
     }
-    ended(q)
 }
 
 // The answer where the list ends in this state, and the docid was not met.

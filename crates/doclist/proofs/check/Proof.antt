@@ -1,23 +1,25 @@
--- `check` meets its contract. The loop's invariant: what is left to check, from the state `q` on, gives what checking the
--- whole list gives (`Checking`). The measure is what is left of the length.
-use Rattle.doclist.proofs.Steps.{Checking, checking-ends, checking-refused, checking-more}
-use Rattle.doclist.proofs.Law.{checked, check-walk, check-wrong}
-use Rattle.doclist.specs.Doclist.{maxColumns}
-use Rattle.doclist.proofs.General.{within-low, within-high}
-use Rattle.varint.proofs.Laws.{stored-at, next-after}
-use mathlib.Core.Path.{sym, _∙_}
+-- `check` meets its contract. The loop's invariant: what is left to check, where an entry's columns begin, gives what checking
+-- the whole list gives (`Checking`). The measure is what is left of the length.
 use Prim.Native.Nat.{_-_}
 use native.Mathlib.Omega.{arith}
-use borrow.Author.Needs.{needs}
+use mathlib.Core.Path.{refl, sym, _∙_, subst}
 use lib.ListN.{length}
+use borrow.Author.Needs.{needs}
+use Rattle.doclist.specs.Doclist.{maxColumns}
+use Rattle.doclist.specs.Spots.{Checking, Closes}
+use Rattle.doclist.specs.declared.State.the-variants.{Open}
+use Rattle.doclist.proofs.General.{within-low, within-high}
+use Rattle.doclist.proofs.Steps.{checking-ends, checking-refused}
+use Rattle.doclist.proofs.Law.{checked, check-wrong}
+use Rattle.doclist.proofs.Spots.{inside, at-number, at-refused, checking-start, docid-again, docid-large, next-entry}
 use Rattle.doclist.proofs.check.Statement.{statement}
 use Rattle.doclist.proofs.check.Tie as tie
 
 abbrev Inv-loop : tie.InvT-loop
-Inv-loop s columns q₀ i₀ q i = Checking columns s i q
+Inv-loop s columns first columns-at docid₀ i₀ docid i = Checking columns s i (Open docid 0 0 0)
 
 abbrev μ-loop : tie.MeasureT-loop
-μ-loop s columns q₀ i₀ q i = length s - i
+μ-loop s columns first columns-at docid₀ i₀ docid i = length s - i
 
 returns : tie.Need-returns Inv-loop μ-loop
 returns c =
@@ -29,49 +31,100 @@ returns-2 c =
     let a = c .before .before .before .args in
     checked (a .columns) (a .s .now) (sym (check-wrong (a .columns) (a .s .now) (within-high 1 maxColumns (a .columns) (c .if2 .taken))))
 
-loop-holds : tie.Need-loop-holds Inv-loop μ-loop
-loop-holds c =
-    let a = c .before .before .before .args in
-    record { sane = tt; most = length (a .s .now); enough = omega arith; goes-on = check-walk (a .columns) (a .s .now) (omega arith) (c .if2 .left) }
-
 read-requires : tie.Need-read-requires Inv-loop μ-loop
-read-requires c κs = tt
+read-requires c κs = search needs
 
-enum-known-value : tie.Need-enum-known-value Inv-loop μ-loop
-enum-known-value c = search needs
+enum-known-first : tie.Need-enum-known-first Inv-loop μ-loop
+enum-known-first c = search needs
 
 enum-told : tie.Need-enum-told Inv-loop μ-loop
 enum-told c = search needs
 
 returns-3 : tie.Need-returns-3 Inv-loop μ-loop
 returns-3 c =
-    let a = c .before .before .before .before .before .before .before .before .args in
+    let a = c .before .before .before .before .before .before .args in
     let e = sym (c .before .before .read .ensures .0) ∙ c .enum-told .given .1 in
-    checked (a .columns) (a .s .now) (sym (checking-refused (c .before .before .before .before .loop .inv) (c .before .before .before .loop-test .taken) e))
+    checked (a .columns) (a .s .now) (sym (at-refused (checking-start (a .columns) (a .s .now) (omega arith) (c .before .before .before .if2 .left)) refl e))
 
-step-requires : tie.Need-step-requires Inv-loop μ-loop
-step-requires c κs =
-    let e = sym (c .before .before .before .read .ensures .0) ∙ c .before .value .given .1 in
-    (c .before .before .before .before .before .loop .inv .sane, stored-at _ _ _ _ .0 e .small)
+loop-holds : tie.Need-loop-holds Inv-loop μ-loop
+loop-holds c =
+    let a = c .before .before .before .before .before .before .before .args in
+    let e = sym (c .before .before .before .read .ensures .0) ∙ c .before .first .given .1 in
+    at-number (checking-start (a .columns) (a .s .now) (omega arith) (c .before .before .before .before .if2 .left)) e
 
-loop-less : tie.Need-loop-less Inv-loop μ-loop
-loop-less c =
-    let e = sym (c .before .before .before .before .read .ensures .0) ∙ c .before .before .value .given .1 in
-    let h = next-after (omega arith) (stored-at _ _ _ _ .0 e) in
-    omega (arith, c .before .before .before .before .before .loop-test .taken)
+close-requires : tie.Need-close-requires Inv-loop μ-loop
+close-requires c κs = search needs
 
-loop-again : tie.Need-loop-again Inv-loop μ-loop
-loop-again c =
-    let e = sym (c .before .before .before .before .read .ensures .0) ∙ c .before .before .value .given .1 in
-    rw (c .step .ensures) (checking-more (c .before .before .before .before .before .before .loop .inv) (c .before .before .before .before .before .loop-test .taken) e)
+enum-known-end : tie.Need-enum-known-end Inv-loop μ-loop
+enum-known-end c = search needs
 
-ended-requires : tie.Need-ended-requires Inv-loop μ-loop
-ended-requires c κs = tt
+enum-told-2 : tie.Need-enum-told-2 Inv-loop μ-loop
+enum-told-2 c = search needs
 
 returns-4 : tie.Need-returns-4 Inv-loop μ-loop
 returns-4 c =
-    let a = c .before .before .before .before .before .before .args in
-    checked (a .columns) (a .s .now) (c .ended .ensures ∙ sym (checking-ends (c .before .before .loop .inv) (c .before .loop-test .left)))
+    let a = c .before .before .before .before .before .before .before .before .before .before .before .args in
+    let k = subst (Closes _ _ _) (c .enum-told2 .given .1) (c .before .before .close .ensures) _ (c .before .before .before .loop .inv) in
+    checked (a .columns) (a .s .now) (sym k)
+
+returns-5 : tie.Need-returns-5 Inv-loop μ-loop
+returns-5 c =
+    let a = c .before .before .before .before .before .before .before .before .before .before .before .before .before .args in
+    let k = subst (Closes _ _ _) (c .before .before .end .given .1) (c .before .before .before .before .close .ensures) .1 _ (c .before .before .before .before .before .loop .inv) in
+    checked (a .columns) (a .s .now) (sym (checking-ends k (c .if3 .taken)))
+
+read-requires-2 : tie.Need-read-requires-2 Inv-loop μ-loop
+read-requires-2 c κs = search needs
+
+enum-known-v : tie.Need-enum-known-v Inv-loop μ-loop
+enum-known-v c = search needs
+
+enum-told-3 : tie.Need-enum-told-3 Inv-loop μ-loop
+enum-told-3 c = search needs
+
+returns-6 : tie.Need-returns-6 Inv-loop μ-loop
+returns-6 c =
+    let a = c .before .before .before .before .before .before .before .before .before .before .before .before .before .before .before .before .args in
+    let k = subst (Closes _ _ _) (c .before .before .before .before .before .end .given .1) (c .before .before .before .before .before .before .before .close .ensures) .1 _ (c .before .before .before .before .before .before .before .before .loop .inv) in
+    let e = sym (c .before .before .read2 .ensures .0) ∙ c .enum-told3 .given .1 in
+    checked (a .columns) (a .s .now) (sym (checking-refused k (c .before .before .before .if3 .left) e))
+
+returns-7 : tie.Need-returns-7 Inv-loop μ-loop
+returns-7 c =
+    let a = c .before .before .before .before .before .before .before .before .before .before .before .before .before .before .before .before .before .before .args in
+    let k = subst (Closes _ _ _) (c .before .before .before .before .before .before .before .end .given .1) (c .before .before .before .before .before .before .before .before .before .close .ensures) .1 _ (c .before .before .before .before .before .before .before .before .before .before .loop .inv) in
+    let e = sym (c .before .before .before .before .read2 .ensures .0) ∙ c .before .before .v .given .1 in
+    checked (a .columns) (a .s .now) (sym (docid-again k e (c .if4 .taken)))
+
+sub-if5 : tie.Need-sub-if5 Inv-loop μ-loop
+sub-if5 c =
+    let h = c .before .before .before .before .before .before .before .before .before .before .loop .inv .sane .0 in
+    omega arith
+
+returns-8 : tie.Need-returns-8 Inv-loop μ-loop
+returns-8 c =
+    let a = c .before .before .before .before .before .before .before .before .before .before .before .before .before .before .before .before .before .before .before .args in
+    let k = subst (Closes _ _ _) (c .before .before .before .before .before .before .before .before .end .given .1) (c .before .before .before .before .before .before .before .before .before .before .close .ensures) .1 _ (c .before .before .before .before .before .before .before .before .before .before .before .loop .inv) in
+    let e = sym (c .before .before .before .before .before .read2 .ensures .0) ∙ c .before .before .before .v .given .1 in
+    checked (a .columns) (a .s .now) (sym (docid-large k e (c .before .if4 .left) (c .if5 .taken)))
+
+add-docid : tie.Need-add-docid Inv-loop μ-loop
+add-docid c =
+    let h = c .before .before .before .before .before .before .before .before .before .before .before .loop .inv .sane .0 in
+    omega arith
+
+loop-less : tie.Need-loop-less Inv-loop μ-loop
+loop-less c =
+    let p = subst (Closes _ _ _) (c .before .before .before .before .before .before .before .before .end .given .1) (c .before .before .before .before .before .before .before .before .before .before .close .ensures) .0 in
+    let e = sym (c .before .before .before .before .before .read2 .ensures .0) ∙ c .before .before .before .v .given .1 in
+    let h = inside _ _ _ _ e in
+    omega arith
+
+loop-again : tie.Need-loop-again Inv-loop μ-loop
+loop-again c =
+    let k = subst (Closes _ _ _) (c .before .before .before .before .before .before .before .before .end .given .1) (c .before .before .before .before .before .before .before .before .before .before .close .ensures) .1 _ (c .before .before .before .before .before .before .before .before .before .before .before .loop .inv) in
+    let e = sym (c .before .before .before .before .before .read2 .ensures .0) ∙ c .before .before .before .v .given .1 in
+    next-entry k e (c .before .if4 .left) (c .if5 .left)
 
 pub check-spec : {M : Type 1} → statement M
 check-spec =
@@ -81,13 +134,23 @@ check-spec =
     μ-loop
     returns
     returns-2
-    loop-holds
     read-requires
-    enum-known-value
+    enum-known-first
     enum-told
     returns-3
-    step-requires
+    loop-holds
+    close-requires
+    enum-known-end
+    enum-told-2
+    returns-4
+    returns-5
+    read-requires-2
+    enum-known-v
+    enum-told-3
+    returns-6
+    returns-7
+    sub-if5
+    returns-8
+    add-docid
     loop-less
-    loop-again
-    ended-requires
-    returns-4)
+    loop-again)
