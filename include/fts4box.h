@@ -1,11 +1,24 @@
 /* fts4box: counting rows from raw FTS4 segment leaves.
  *
  * Each call returns the number of its answer and stores the number beside it in *second. Every call comes back for any
- * bytes whatever; it keeps no state, so calls are reentrant. No heap and no files are used.
+ * bytes, any lengths and any counts: what breaks a rule is refused by its own number, and input is never changed. What each
+ * call answers is proved; docs/GUARANTEES.md says what exactly, and what is assumed.
  *
- * NULL may be passed for a pointer whose length is 0. A room, and the numbers that a call stores, must not overlap its
- * inputs or each other. Several byte strings are lent as one slice with a list of 32-bit ends: the ends never fall, none
- * passes the slice's length, and the last equals it.
+ * Lending. A slice is a pointer and a length, counted in elements; NULL goes with length 0. Several byte strings are lent as
+ * one slice with a list of 32-bit ends: the ends never fall, none passes the slice's length, and the last equals it; an
+ * empty list goes only with an empty slice. Leaves come newest first.
+ *
+ * What a caller must keep (it is not checked): every pointer is aligned and has so many elements behind it; the numbers to be
+ * stored are not NULL; a room and those numbers do not overlap each other or an input.
+ *
+ * Rooms. A refusal leaves the whole room zeros; acceptance leaves the result and then zeros. A room of length 0 is enough for
+ * no result. Number 4 is given exactly when the need is greater than the room's length.
+ *
+ * The calls keep no state, so they are reentrant and may run on several threads at once. They use no heap and no files, and
+ * need no other symbol than memcpy, memmove and memset.
+ *
+ * Stack, measured on x86-64 (bench/stack.sh):
+ *     fts4_check, fts4_lookup and fts4_deciding 1 KiB, fts4_write 37 KiB, fts4_search 254 KiB
  */
 #ifndef FTS4BOX_H
 #define FTS4BOX_H
@@ -20,32 +33,52 @@ extern "C" {
 enum {
     FTS4_ACCEPTED = 0, /* second: docids listed, bytes written, or bytes in the part */
     FTS4_SHAPE = 1,    /* ends, names, counts, sizes, a negative docid or a word's length; second is 0 */
-    FTS4_QUERY = 2,    /* the query is not in the language; second is 0 */
-    FTS4_LEAF = 3,     /* a leaf breaks a rule; second is the first such leaf, newest first */
+    FTS4_QUERY = 2,    /* the query is not in the language or over a bound of it; second is 0 */
+    FTS4_LEAF = 3,     /* a leaf breaks a rule; second is the first such leaf, counted from 0, newest first */
     FTS4_ROOM = 4,     /* the room is too small; second is what is needed */
     FTS4_WORD = 5      /* a document word over 64 bytes; second is the first column that has one */
 };
 
-/* Checks one leaf of a table with so many columns (1 to 16). Answers 0, 1 or 3, each with 0. */
+/* Checks one leaf of a table with so many columns.
+ *
+ * Answers 0 if every rule of a leaf holds; 1 if columns is not 1 to 16 or the leaf has more than 65,536 bytes; else 3. The
+ * number beside each is 0. */
 uint32_t fts4_check(const uint8_t *leaf, size_t leaf_len, uint32_t columns, uint64_t *second);
 
-/* Looks a word of 1 to 64 bytes up in one leaf, with no folding. If the answer is 0 and *second is not 0, the word's posting
- * list is leaf[*start .. *start + *second]; otherwise there is none, and *start is 0. Answers 0, 1 or 3. */
+/* Looks a word of 1 to 64 bytes up in one leaf, with no folding.
+ *
+ * Answers 0, 1 or 3. If the answer is 0 and *second is not 0, the word's posting list is leaf[*start .. *start + *second];
+ * otherwise there is no such list, and *start is 0. */
 uint32_t fts4_lookup(const uint8_t *leaf, size_t leaf_len, uint32_t columns, const uint8_t *word, size_t word_len,
                      uint64_t *second, uint64_t *start);
 
-/* Looks for the entry that decides for a word and a docid: of the newer leaf if it has one, a deletion too, else of the
- * older. If the answer is 0 and *second is not 0, it is the *second bytes from *start on of the newer (*leaf 0) or the older
- * (*leaf 1) leaf; otherwise there is none, and *leaf and *start are 0. Answers 0, 1 or 3 (newer 0, older 1). */
+/* Looks for the entry that decides for a word and a docid of 0 or more: of the newer leaf if it has one, a deletion too, else of
+ * the older. The two leaves have at most 65,536 bytes together.
+ *
+ * Answers 0, 1 or 3 (with 0 for the newer leaf, 1 for the older). If the answer is 0 and *second is not 0, the entry is the
+ * *second bytes from *start on of the newer (*leaf is 0) or the older leaf (*leaf is 1); otherwise there is none, and *leaf and
+ * *start are 0. */
 uint32_t fts4_deciding(const uint8_t *newer, size_t newer_len, const uint8_t *older, size_t older_len, uint32_t columns,
                        const uint8_t *word, size_t word_len, int64_t docid,
                        uint64_t *second, uint32_t *leaf, uint64_t *start);
 
-/* Writes the leaf for one document, a docid of 0 or more and the texts of its 1 to 16 columns (together at most 4,096
- * bytes), into the room, with zeros behind it. A document without words writes 0 bytes. Every refusal leaves the room all
- * zeros. Answers 0 with the bytes written, 1, 5 with the first column that has a word over 64 bytes, or 4 with the need. */
+/* Writes the leaf for one document: a docid of 0 or more and the texts of its 1 to 16 columns, together at most 4,096 bytes.
+ *
+ * Answers 0 with the bytes written, 0 bytes for a document without words; or, checked in this order, 1; 5 with the first column
+ * that has a word over 64 bytes; 4 with the bytes needed. */
 uint32_t fts4_write(int64_t docid, const uint8_t *texts, size_t texts_len, const uint32_t *ends, size_t ends_len,
                     uint8_t *room, size_t room_len, uint64_t *second);
+
+/* Lists the docids of all rows that satisfy a query, rising, each once.
+ *
+ * Lent are 1 to 16 column names (1 to 32 ASCII letters, digits or _, no two equal when case is ignored), 0 to 8 leaves, newest
+ * first and together at most 65,536 bytes, and a query of at most 512 bytes in the enhanced syntax.
+ *
+ * Answers 0 with the count of docids; or, checked in this order, 1; 2; 3 with the first leaf that breaks a rule; 4 with the
+ * count of docids. */
+uint32_t fts4_search(const uint8_t *names, size_t names_len, const uint32_t *name_ends, size_t name_ends_len,
+                     const uint8_t *leaves, size_t leaves_len, const uint32_t *leaf_ends, size_t leaf_ends_len,
+                     const uint8_t *query, size_t query_len, int64_t *room, size_t room_len, uint64_t *second);
 
 #ifdef __cplusplus
 }

@@ -1,4 +1,6 @@
-"""The form of compared cases: what is asked, and the line that answers it."""
+"""The form of compared cases: what is asked, and the line that answers it. `joined` is how byte strings are lent."""
+import paths  # noqa: F401
+from fts4box import joined  # noqa: F401
 
 
 class Cases:
@@ -30,15 +32,6 @@ class Cases:
     def files(self):
         self.number(0)
         return bytes(self.asked), "".join(line + "\n" for line in self.lines).encode("ascii")
-
-
-def joined(parts):
-    """Byte strings as they are lent: one slice and its ends."""
-    ends, total = [], 0
-    for part in parts:
-        total += len(part)
-        ends.append(total)
-    return b"".join(parts), ends
 
 
 def said(part):

@@ -96,15 +96,19 @@ def leaves(cases):
             ask_check(cases, P12[:at] + bytes([P12[at] ^ 1 << bit]) + P12[at + 1:], 3)
 
 
+def leaf_of_size(total):
+    """A sound leaf of so many bytes, all deletions of one word, and that word."""
+    doclist = reference.encode_doclist([(d, []) for d in range(1, (total - 8) // 2 + 1)])
+    word = b"w"
+    while len(leaf_of_list(doclist, word)) < total:
+        word += b"w"
+    return leaf_of_list(doclist, word), word
+
+
 def sizes(cases):
     """65,536 bytes and one more."""
     for total in (65536, 65537):
-        entries = [(d, []) for d in range(1, (total - 8) // 2 + 1)]
-        doclist = reference.encode_doclist(entries)
-        word = b"w"
-        while len(leaf_of_list(doclist, word)) < total:
-            word += b"w"
-        leaf = leaf_of_list(doclist, word)
+        leaf, word = leaf_of_size(total)
         ask_check(cases, leaf, 1)
         ask_lookup(cases, leaf, 1, word)
 

@@ -6,10 +6,12 @@
 FOLDER gets `leaf0.bin`, `leaf1.bin` and so on, newest first, and `columns.txt` with a column name on each line. All is read
 in one transaction. What the box can't take is refused with a message that says what to do, and nothing is written.
 """
+import contextlib
 import os
 import re
 import sqlite3
 import sys
+import urllib.parse
 
 MAX_LEAVES = 8
 MAX_BYTES = 65536
@@ -89,11 +91,11 @@ def column_names(base, table):
 def segments(base, table):
     """The segments' leaves, newest first: lower level first, then higher index."""
     rows = base.execute(
-        "select level, idx, leaves_end_block, root from %s order by level, idx desc" % quoted(table + "_segdir")
+        "select level, idx, root from %s order by level, idx desc" % quoted(table + "_segdir")
     ).fetchall()
     leaves = []
-    for level, index, _, root in rows:
-        if bytes(root[:1]) != b"\x00":
+    for level, index, root in rows:
+        if not root or root[0] != 0:
             raise Refused(
                 "segment %d of level %d has interior nodes: set `pragma page_size=65536` before the table is filled, "
                 "so that a segment is one leaf" % (index, level)
@@ -111,16 +113,29 @@ def segments(base, table):
 
 def export(database, table):
     """The column names and the leaves, newest first."""
-    base = sqlite3.connect("file:%s?mode=ro" % database.replace("?", "%3f").replace("#", "%23"), uri=True, isolation_level=None)
+    place = "file:%s?mode=ro" % urllib.parse.quote(database)
     try:
-        base.execute("begin")
-        name, options = arguments(base, table)
-        check_options(options)
-        return column_names(base, name), segments(base, name)
+        with contextlib.closing(sqlite3.connect(place, uri=True, isolation_level=None)) as base:
+            base.execute("begin")
+            name, options = arguments(base, table)
+            check_options(options)
+            return column_names(base, name), segments(base, name)
     except sqlite3.Error as error:
-        raise Refused("the database can't be read: %s" % error)
-    finally:
-        base.close()
+        raise Refused("the database %s can't be read: %s" % (database, error))
+
+
+def write_out(folder, names, leaves):
+    """The files; leaves of an earlier export don't stay behind them."""
+    os.makedirs(folder, exist_ok=True)
+    for i in range(MAX_LEAVES):
+        path = os.path.join(folder, "leaf%d.bin" % i)
+        if i < len(leaves):
+            with open(path, "wb") as f:
+                f.write(leaves[i])
+        elif os.path.exists(path):
+            os.remove(path)
+    with open(os.path.join(folder, "columns.txt"), "w", encoding="ascii") as f:
+        f.write("".join(name + "\n" for name in names))
 
 
 def main(words):
@@ -133,12 +148,7 @@ def main(words):
     except Refused as refused:
         print("refused: %s" % refused, file=sys.stderr)
         return 1
-    os.makedirs(folder, exist_ok=True)
-    for i, leaf in enumerate(leaves):
-        with open(os.path.join(folder, "leaf%d.bin" % i), "wb") as f:
-            f.write(leaf)
-    with open(os.path.join(folder, "columns.txt"), "w", encoding="ascii") as f:
-        f.write("".join(name + "\n" for name in names))
+    write_out(folder, names, leaves)
     print("%d leaves, %d bytes, columns %s" % (len(leaves), sum(map(len, leaves)), " ".join(names)))
     return 0
 

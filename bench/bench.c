@@ -1,0 +1,267 @@
+/* Measures the box beside SQLite and beside a plain C checker, on the same data in one run: repetitions are interleaved, and
+ * the best of each counts.
+ *
+ *     bench FOLDER
+ *
+ * FOLDER is what make_index.py and make_worst.py made. The table is written as Markdown. */
+#include "fts4box.h"
+#include "checker.h"
+
+#include <sqlite3.h>
+#include <stdio.h>
+#include <stdlib.h>
+#include <string.h>
+#include <time.h>
+
+enum { MAX_LEAVES = 8, MAX_BYTES = 65536, COLUMNS = 3, ROOM = 65536, ROUNDS = 300, SIZES = 4, PATH = 4096 };
+
+static const char NAMES[] = "nodesentoutcome";
+static const uint32_t NAME_ENDS[COLUMNS] = { 4, 8, 15 };
+static const int ROWS[SIZES] = { 400, 800, 1600, 3200 };
+
+/* A query, and the largest ratio to SQLite's time that it is to reach, less the check or whole. */
+struct query {
+    const char *text;
+    double less_check;
+    double whole;
+};
+
+static const struct query QUERIES[] = {
+    { "reply", 0.7, 0 },
+    { "outcome:reply NOT outcome:timeout", 0.7, 1.2 },
+    { "n1 OR n2 OR n3 OR n4 OR n5 OR n6 OR n7 OR n8", 0.7, 0 },
+    { "n12 reply", 1.0, 0 },
+    { "timeout", 1.0, 0 },
+    { "\"no reply\"", 1.0, 0 },
+    { "no NEAR/1 timeout", 1.0, 0 },
+    { "n* timeout", 3.0, 0 },
+    { "t1* reply", 3.0, 0 },
+};
+
+enum { QUERY_COUNT = sizeof QUERIES / sizeof *QUERIES };
+
+static const double CHECK_LIMIT = 1.2, GROWTH_LIMIT = 2.4, WORST_LIMIT = 2e6;
+
+struct index {
+    uint8_t leaves[MAX_BYTES];
+    uint32_t ends[MAX_LEAVES];
+    size_t count;
+    sqlite3 *db;
+};
+
+/* What one query takes over one index, in microseconds. */
+struct times {
+    double box, sqlite;
+    uint64_t found;
+};
+
+static int64_t room[ROOM];
+
+static double now(void)
+{
+    struct timespec t;
+    clock_gettime(CLOCK_MONOTONIC, &t);
+    return t.tv_sec * 1e6 + t.tv_nsec * 1e-3;
+}
+
+static void keep_least(double *best, double value)
+{
+    if (value < *best)
+        *best = value;
+}
+
+static void fail(const char *what)
+{
+    fprintf(stderr, "bench: %s\n", what);
+    exit(1);
+}
+
+static size_t size_of(const struct index *x)
+{
+    return x->count ? x->ends[x->count - 1] : 0;
+}
+
+static int read_leaf(struct index *x, const char *path)
+{
+    FILE *f = fopen(path, "rb");
+    if (!f)
+        return 0;
+    size_t from = size_of(x);
+    x->ends[x->count++] = (uint32_t)(from + fread(x->leaves + from, 1, MAX_BYTES - from, f));
+    fclose(f);
+    return 1;
+}
+
+static void load(struct index *x, const char *folder)
+{
+    char path[PATH];
+    x->count = 0;
+    do
+        snprintf(path, sizeof path, "%s/leaf%zu.bin", folder, x->count);
+    while (x->count < MAX_LEAVES && read_leaf(x, path));
+    snprintf(path, sizeof path, "%s/index.db", folder);
+    x->db = NULL;
+    if (sqlite3_open_v2(path, &x->db, SQLITE_OPEN_READONLY, NULL) != SQLITE_OK)
+        x->db = NULL;
+}
+
+/* ---- one repetition of each */
+
+static double box_check(const struct index *x)
+{
+    uint64_t second;
+    size_t from = 0;
+    double start = now();
+    for (size_t i = 0; i < x->count; from = x->ends[i++])
+        if (fts4_check(x->leaves + from, x->ends[i] - from, COLUMNS, &second) != FTS4_ACCEPTED)
+            fail("a leaf is refused");
+    return now() - start;
+}
+
+static double plain_checks(const struct index *x)
+{
+    size_t from = 0;
+    double start = now();
+    for (size_t i = 0; i < x->count; from = x->ends[i++])
+        if (!plain_check(x->leaves + from, x->ends[i] - from, COLUMNS))
+            fail("the plain checker refuses a leaf");
+    return now() - start;
+}
+
+static double box_search(const struct index *x, const char *query, uint64_t *found)
+{
+    double start = now();
+    uint32_t answer = fts4_search((const uint8_t *)NAMES, strlen(NAMES), NAME_ENDS, COLUMNS, x->leaves, size_of(x), x->ends, x->count,
+                                  (const uint8_t *)query, strlen(query), room, ROOM, found);
+    double spent = now() - start;
+    if (answer != FTS4_ACCEPTED)
+        fail("a search is refused");
+    return spent;
+}
+
+static double sqlite_search(sqlite3_stmt *statement, uint64_t *found)
+{
+    *found = 0;
+    double start = now();
+    while (sqlite3_step(statement) == SQLITE_ROW) {
+        if (room[*found] != sqlite3_column_int64(statement, 0))
+            fail("SQLite lists another docid");
+        ++*found;
+    }
+    double spent = now() - start;
+    sqlite3_reset(statement);
+    return spent;
+}
+
+/* ---- the best of many */
+
+static struct times measure(const struct index *x, const char *query)
+{
+    struct times best = { 1e18, 1e18, 0 };
+    uint64_t theirs;
+    sqlite3_stmt *statement;
+    if (sqlite3_prepare_v2(x->db, "select docid from t where t match ?", -1, &statement, NULL) != SQLITE_OK)
+        fail("SQLite can't read the index");
+    sqlite3_bind_text(statement, 1, query, -1, SQLITE_STATIC);
+    for (int i = 0; i < ROUNDS; i++) {
+        keep_least(&best.box, box_search(x, query, &best.found));
+        keep_least(&best.sqlite, sqlite_search(statement, &theirs));
+        if (theirs != best.found)
+            fail("SQLite counts otherwise");
+    }
+    sqlite3_finalize(statement);
+    return best;
+}
+
+static const char *verdict(double value, double limit)
+{
+    return value <= limit ? "met" : "**not met**";
+}
+
+static double table_of_checks(const struct index *x)
+{
+    double box = 1e18, plain = 1e18;
+    for (int i = 0; i < ROUNDS; i++) {
+        keep_least(&box, box_check(x));
+        keep_least(&plain, plain_checks(x));
+    }
+    printf("| check of all leaves (%zu bytes) | box µs | plain C µs | box / plain C | at most | |\n|---|---|---|---|---|---|\n", size_of(x));
+    printf("| | %.0f | %.0f | %.2f | %.1f | %s |\n\n", box, plain, box / plain, CHECK_LIMIT, verdict(box / plain, CHECK_LIMIT));
+    return box;
+}
+
+static void table_of_queries(const struct index *x, double check)
+{
+    printf("| query, 3,200 rows | rows found | box µs | less check µs | SQLite µs | less check / SQLite | at most | | whole / SQLite | at most | |\n");
+    printf("|---|---|---|---|---|---|---|---|---|---|---|\n");
+    for (int q = 0; q < QUERY_COUNT; q++) {
+        const struct query *query = &QUERIES[q];
+        struct times t = measure(x, query->text);
+        double less = (t.box - check) / t.sqlite, whole = t.box / t.sqlite;
+        printf("| `%s` | %lu | %.0f | %.0f | %.0f | %.2f | %.1f | %s | %.2f |", query->text, (unsigned long)t.found, t.box, t.box - check, t.sqlite,
+               less, query->less_check, verdict(less, query->less_check), whole);
+        if (query->whole > 0)
+            printf(" %.1f | %s |\n", query->whole, verdict(whole, query->whole));
+        else
+            printf(" | |\n");
+    }
+}
+
+static void table_of_growth(const struct index *all)
+{
+    printf("\n| box µs at so many rows | 400 | 800 | 1,600 | 3,200 | 1,600 to 3,200 | at most | |\n|---|---|---|---|---|---|---|---|\n");
+    for (int q = 0; q < QUERY_COUNT; q++) {
+        double best[SIZES] = { 1e18, 1e18, 1e18, 1e18 };
+        uint64_t found;
+        for (int i = 0; i < ROUNDS; i++)
+            for (int k = 0; k < SIZES; k++)
+                keep_least(&best[k], box_search(&all[k], QUERIES[q].text, &found));
+        double growth = best[SIZES - 1] / best[SIZES - 2];
+        printf("| `%s` | %.0f | %.0f | %.0f | %.0f | %.2f | %.1f | %s |\n", QUERIES[q].text, best[0], best[1], best[2], best[3], growth, GROWTH_LIMIT,
+               verdict(growth, GROWTH_LIMIT));
+    }
+}
+
+/* Each line of worst.txt: a folder, and the query that is dear on its leaves. */
+static void table_of_worst(const char *folder)
+{
+    static struct index x;
+    char path[PATH], line[PATH];
+    snprintf(path, sizeof path, "%s/worst.txt", folder);
+    FILE *f = fopen(path, "r");
+    if (!f)
+        fail("there is no worst.txt");
+    printf("\n| worst inputs | query | rows found | box ms | at most | |\n|---|---|---|---|---|---|\n");
+    while (fgets(line, sizeof line, f)) {
+        uint64_t found;
+        line[strcspn(line, "\n")] = 0;
+        char *query = strchr(line, ' ');
+        *query++ = 0;
+        snprintf(path, sizeof path, "%.1000s/%.1000s", folder, line);
+        load(&x, path);
+        double spent = box_search(&x, query, &found);
+        printf("| %s | `%.40s%s` | %lu | %.1f | %.0f | %s |\n", line, query, strlen(query) > 40 ? " .." : "", (unsigned long)found, spent / 1e3,
+               WORST_LIMIT / 1e3, verdict(spent, WORST_LIMIT));
+        fflush(stdout);
+    }
+    fclose(f);
+}
+
+int main(int argc, char **argv)
+{
+    static struct index all[SIZES];
+    char path[PATH];
+    if (argc != 2)
+        fail("usage: bench FOLDER");
+    for (int k = 0; k < SIZES; k++) {
+        snprintf(path, sizeof path, "%s/%d", argv[1], ROWS[k]);
+        load(&all[k], path);
+        if (!all[k].db || all[k].count != MAX_LEAVES)
+            fail("an index is missing");
+    }
+    double check = table_of_checks(&all[SIZES - 1]);
+    table_of_queries(&all[SIZES - 1], check);
+    table_of_growth(all);
+    table_of_worst(argv[1]);
+    return 0;
+}

@@ -1,0 +1,101 @@
+"""The five calls of the static library, each buffer against a guard page: one byte read or written outside is a crash.
+
+Rooms and numbers are filled with other values beforehand. Each call answers in the second program's form.
+"""
+import ctypes
+import mmap
+
+import paths  # noqa: F401
+import fts4box
+
+PAGE = mmap.PAGESIZE
+FILL = 0xA5
+PROT_NONE, PROT_BOTH, PRIVATE_ANONYMOUS = 0, 3, 0x22
+MAP_FAILED = ctypes.c_void_p(-1).value
+MOST_INPUT, MOST_ROOM, NUMBER_SIZE = 80000, 1 << 20, 8
+
+libc = ctypes.CDLL(None, use_errno=True)
+libc.mmap.restype = ctypes.c_void_p
+libc.mmap.argtypes = [ctypes.c_void_p, ctypes.c_size_t, ctypes.c_int, ctypes.c_int, ctypes.c_int, ctypes.c_long]
+libc.mprotect.argtypes = [ctypes.c_void_p, ctypes.c_size_t, ctypes.c_int]
+
+
+class Arena:
+    """Memory between two guard pages, used again for each call."""
+
+    def __init__(self, most):
+        self.size = (most + PAGE - 1) // PAGE * PAGE
+        base = libc.mmap(None, self.size + 2 * PAGE, PROT_BOTH, PRIVATE_ANONYMOUS, -1, 0)
+        if base == MAP_FAILED:
+            raise OSError(ctypes.get_errno(), "mmap")
+        for guard in (base, base + PAGE + self.size):
+            if libc.mprotect(guard, PAGE, PROT_NONE) != 0:
+                raise OSError(ctypes.get_errno(), "mprotect")
+        self.start = base + PAGE
+
+    def place(self, data, at_end):
+        """The address of these bytes, ended or begun by a guard page."""
+        assert len(data) <= self.size
+        address = self.start + self.size - len(data) if at_end else self.start
+        ctypes.memmove(address, data, len(data))
+        return address
+
+
+class Box:
+    """`at_end` says at which end of a buffer the guard page stands, `null` whether an empty input is passed as NULL."""
+
+    def __init__(self, archive=fts4box.ARCHIVE):
+        self.library = fts4box.load(archive)
+        self.inputs = [Arena(MOST_INPUT) for _ in range(5)]
+        self.room = Arena(MOST_ROOM)
+        self.numbers = [Arena(NUMBER_SIZE) for _ in range(3)]
+        self.at_end = True
+        self.null = False
+
+    def lend(self, *parts):
+        """Addresses and lengths of inputs, as a call takes them."""
+        out = []
+        for arena, data in zip(self.inputs, parts):
+            raw = b"".join(end.to_bytes(4, "little") for end in data) if isinstance(data, list) else data
+            out += [None if self.null and not data else arena.place(raw, self.at_end), len(data)]
+        return out
+
+    def lend_numbers(self, *sizes):
+        return [arena.place(bytes([FILL]) * size, self.at_end) for arena, size in zip(self.numbers, sizes)]
+
+    def lend_room(self, size):
+        return None if self.null and size == 0 else self.room.place(bytes([FILL]) * size, self.at_end)
+
+    def check(self, leaf, columns):
+        (second,) = self.lend_numbers(8)
+        number = self.library.fts4_check(*self.lend(leaf), columns, second)
+        return number, number_at(second, 8)
+
+    def lookup(self, leaf, columns, word):
+        second, start = self.lend_numbers(8, 8)
+        leaf_at, leaf_len, word_at, word_len = self.lend(leaf, word)
+        number = self.library.fts4_lookup(leaf_at, leaf_len, columns, word_at, word_len, second, start)
+        return number, number_at(second, 8), number_at(start, 8)
+
+    def deciding(self, newer, older, columns, word, docid):
+        second, which, start = self.lend_numbers(8, 4, 8)
+        a, b, c, d, word_at, word_len = self.lend(newer, older, word)
+        number = self.library.fts4_deciding(a, b, c, d, columns, word_at, word_len, docid, second, which, start)
+        return number, number_at(second, 8), number_at(which, 4), number_at(start, 8)
+
+    def write(self, docid, texts, ends, room_len):
+        (second,) = self.lend_numbers(8)
+        room = self.lend_room(room_len)
+        number = self.library.fts4_write(docid, *self.lend(texts, ends), room, room_len, second)
+        return number, number_at(second, 8), ctypes.string_at(room, room_len) if room_len else b""
+
+    def search(self, names, name_ends, leaves, leaf_ends, query, room_len):
+        (second,) = self.lend_numbers(8)
+        room = self.lend_room(8 * room_len)
+        number = self.library.fts4_search(*self.lend(names, name_ends, leaves, leaf_ends, query), room, room_len, second)
+        docids = list((ctypes.c_int64 * room_len).from_address(room)) if room_len else []
+        return number, number_at(second, 8), docids
+
+
+def number_at(address, size):
+    return int.from_bytes(ctypes.string_at(address, size), "little")

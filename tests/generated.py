@@ -1,0 +1,84 @@
+"""Generated rows of the columns node, sent and outcome, and generated queries over their words."""
+NODES = [b"n%d" % i for i in range(1, 13)]
+OUTCOMES = [b"reply", b"reply late", b"no reply, timeout", b"reply reply", b"late reply no timeout", b"No_Reply", b""]
+WORDS = [b"reply", b"late", b"no", b"timeout", b"re", b"rep", b"nor", b"caf\xc3\xa9"]
+COLUMNS = [b"node", b"sent", b"outcome", b"Outcome", b"NODE"]
+NEARS = [b" NEAR ", b" NEAR/0 ", b" NEAR/1 ", b" NEAR/2 ", b" NEAR/3 ", b" NEAR/12 "]
+OPERATORS = [b" AND ", b" OR ", b" NOT ", b" ", b"  ", b"\t"]
+
+
+def some_outcome(rng):
+    """A probe's outcome, or a longer text in which words stand at many distances."""
+    if rng.randrange(3) == 0:
+        return rng.choice((b" ", b", ", b"-")).join(rng.choice(WORDS) for _ in range(rng.randrange(14)))
+    return rng.choice(OUTCOMES)
+
+
+def some_row(rng):
+    return [rng.choice(NODES), b"t%d" % rng.randrange(60), some_outcome(rng)]
+
+
+def some_pool(rng):
+    """The words to choose from: mostly those of the outcomes, since only words of one column can be near."""
+    return WORDS if rng.randrange(4) else NODES + [b"t%d" % rng.randrange(60)]
+
+
+def some_word(rng, pool):
+    """A word of the rows, or the front of one with a star; seldom one that no row has."""
+    word = rng.choice(pool)
+    kind = rng.randrange(16)
+    if kind == 0:
+        return b"absent"
+    if kind == 1:
+        return word.upper() if word.isascii() else word
+    return word[:rng.randrange(1, 4)] + b"*" if kind < 5 and word.isascii() else word
+
+
+def some_operand(rng, pool):
+    """A word, a word in a column, or a phrase."""
+    kind = rng.randrange(6)
+    if kind == 0:
+        return rng.choice(COLUMNS) + b":" + some_word(rng, pool)
+    if kind == 1:
+        return b'"' + b" ".join(some_word(rng, pool) for _ in range(rng.randrange(1, 4))) + b'"'
+    return some_word(rng, pool)
+
+
+def some_chain(rng):
+    pool = some_pool(rng)
+    chain = some_operand(rng, pool)
+    while rng.randrange(3) == 0:
+        chain += rng.choice(NEARS) + some_operand(rng, pool)
+    return chain
+
+
+def some_query(rng, depth=2):
+    """A query of the language; seldom one with more than 16 words."""
+    kind = rng.randrange(24)
+    if kind == 0:
+        return some_tall(rng)
+    if depth == 0 or kind < 9:
+        return some_chain(rng)
+    if kind < 12:
+        return b"(" + some_query(rng, depth - 1) + b")"
+    return some_query(rng, depth - 1) + rng.choice(OPERATORS) + some_side(rng, depth - 1)
+
+
+def some_side(rng, depth):
+    side = some_query(rng, depth)
+    return b"(" + side + b")" if rng.randrange(2) else side
+
+
+def some_tall(rng):
+    """Up to 16 words, grouped from one side or the other, up to 8 deep."""
+    pool = some_pool(rng)
+    words = [some_word(rng, pool) for _ in range(rng.randrange(2, 17))]
+    if rng.randrange(4) == 0:
+        return rng.choice(NEARS).join(words)
+    query, depth = words[0], 0
+    for word in words[1:]:
+        operator = rng.choice(OPERATORS)
+        if depth < 8 and rng.randrange(2):
+            query, depth = b"(" + query + b")", depth + 1
+        query = query + operator + word if rng.randrange(3) else word + operator + query
+    return query

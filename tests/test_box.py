@@ -1,0 +1,251 @@
+#!/usr/bin/env python3
+"""The five calls of the static library against the second program, on sound, damaged and random input.
+
+    python3 tests/test_box.py [CALLS [SEED]]
+
+Inputs, rooms and numbers lie against guard pages. The report counts by call and answer; each answer that a call can give must
+be at least 1 % of its cases.
+"""
+import collections
+import faulthandler
+import random
+import sys
+
+import generated
+import query_cases
+import reference
+from box import Box
+from fts4box import joined
+from leaf_cases import TOP_DOCID, damaged, leaf_of_size, random_leaf
+from search_cases import NAMES, leaf_of, leaf_with
+from tally import Tally
+
+CALLS, SEED = 60000, 20266
+DOCIDS = (*range(30), 127, 128, 2**20, TOP_DOCID)
+LEAST_DOCID = -2**63
+
+
+def junk(rng, most=24):
+    return bytes(rng.choice((0, 1, 2, 3, 97, 98, 128, rng.randrange(256))) for _ in range(rng.randrange(most)))
+
+
+def some_columns(rng):
+    """A column count, now and then one that is none."""
+    return rng.choice((1, 2, 3, 3, 16)) if rng.randrange(12) else rng.choice((0, 17, 2**31, 2**32 - 1))
+
+
+def some_leaf(rng, columns):
+    kind = rng.randrange(24)
+    if kind == 0:
+        return junk(rng)
+    if kind == 1:
+        return b"\x00" + junk(rng)
+    leaf = random_leaf(rng, min(max(columns, 1), 16))
+    return damaged(rng, leaf) if kind < 8 else leaf
+
+
+def content(leaf):
+    """Each word of a leaf with its docids."""
+    return [(term, [docid for docid, _ in entries]) for term, entries, _, _ in reference.parse_leaf(leaf, 16) or []]
+
+
+def some_word(rng, terms):
+    """A word of a leaf mostly, with a docid of its list; else one of another length or with other bytes."""
+    kind = rng.randrange(16)
+    if kind == 0:
+        return b"w" * rng.choice((0, 64, 65, 200)), 1
+    if terms and kind < 13:
+        word, docids = rng.choice(terms)
+        return word, rng.choice(docids)
+    return bytes(rng.choice(b"\x00abz\xff") for _ in range(rng.randrange(1, 4))), 1
+
+
+def check(rng):
+    columns = some_columns(rng)
+    return some_leaf(rng, columns), columns
+
+
+def lookup(rng):
+    columns = some_columns(rng)
+    leaf = some_leaf(rng, columns)
+    return leaf, columns, some_word(rng, content(leaf))[0]
+
+
+def deciding(rng):
+    columns = some_columns(rng)
+    newer, older = some_leaf(rng, columns), some_leaf(rng, columns)
+    word, docid = some_word(rng, content(newer) + content(older))
+    kind = rng.randrange(16)
+    if kind < 4:
+        docid = docid + 1 if kind else rng.choice((-1, LEAST_DOCID, TOP_DOCID))
+    return newer, older, columns, word, docid
+
+
+def other_ends(rng, data, ends):
+    """Ends that are broken mostly, or that cut empty parts off at the end."""
+    ends = list(ends)
+    kind = rng.randrange(5)
+    if kind == 0 or not ends:
+        return ends + [rng.randrange(len(data) + 2)]
+    if kind == 1:
+        return ends[:-1]
+    if kind == 2:
+        return ends + [len(data)] * rng.choice((1, 9, 300))
+    ends[rng.randrange(len(ends))] = rng.choice((0, len(data) + 1, 2**32 - 1))
+    return ends
+
+
+def some_ends(rng, data, ends):
+    """Sound ends mostly."""
+    return ends if rng.randrange(24) else other_ends(rng, data, ends)
+
+
+def some_texts(rng):
+    kind = rng.randrange(100)
+    if kind == 0:
+        return [b"a " * rng.choice((2047, 2048, 2049))]
+    if kind == 1:
+        return [bytes(rng.randrange(256) for _ in range(rng.randrange(600)))]
+    count = rng.choice((1, 2, 3, 3, 16)) if rng.randrange(20) else rng.choice((0, 17))
+    texts = [bytes(rng.choice(b"aAbBz09 . -\x80\xff") for _ in range(rng.randrange(16))) for _ in range(count)]
+    if texts and rng.randrange(10) == 0:
+        texts[rng.randrange(count)] += b" " + b"w" * rng.choice((64, 65, 90))
+    return texts
+
+
+def write(rng):
+    texts, ends = joined(some_texts(rng))
+    ends = some_ends(rng, texts, ends)
+    docid = rng.choice((0, 1, 7, 128, 2**40, TOP_DOCID)) if rng.randrange(20) else rng.choice((-1, LEAST_DOCID))
+    if rng.randrange(2):
+        return docid, texts, ends, rng.randrange(400)
+    need = reference.write_leaf(docid, texts, ends, 0)[1]
+    return docid, texts, ends, rng.choice((need, need, need + 4, max(need - 1, 0)))
+
+
+def some_index(rng):
+    """Leaves, newest first: rows inserted, updated and deleted, or leaves that have nothing to do with each other."""
+    if rng.randrange(12) == 0:
+        return [random_leaf(rng, 3) for _ in range(rng.randrange(9))]
+    rows, leaves = {}, []
+    for _ in range(rng.choice((0, 1, 1, 2, 3, 4, 8))):
+        fresh, gone = {}, []
+        for docid in {rng.choice(DOCIDS) for _ in range(rng.randrange(1, 12))}:
+            gone += [(word, docid) for word, _ in reference.document_terms(docid, rows.pop(docid, []))]
+            if rng.randrange(4):
+                rows[docid] = fresh[docid] = generated.some_row(rng)
+        leaves.insert(0, leaf_with(sorted(fresh.items()), gone))
+    return [leaf for leaf in leaves if leaf]
+
+
+def some_leaves(rng, pool):
+    """The leaves of an index; now and then damaged, too many, or one of another kind among them."""
+    leaves = list(rng.choice(pool))
+    kind = rng.randrange(24)
+    if kind < 4 and leaves:
+        i = rng.randrange(len(leaves))
+        leaves[i] = damaged(rng, leaves[i])
+    elif kind == 4:
+        leaves.insert(rng.randrange(len(leaves) + 1), junk(rng))
+    elif kind == 5 and leaves and rng.randrange(2):
+        leaves = leaves * 9
+    return leaves
+
+
+def some_query(rng):
+    query = generated.some_query(rng) if rng.randrange(8) else query_cases.random_query(rng)
+    kind = rng.randrange(16)
+    if kind == 0:
+        return junk(rng)
+    return query_cases.damaged(rng, query) if kind < 3 else query
+
+
+def some_names(rng):
+    if rng.randrange(24):
+        return NAMES
+    numbered = [b"c%d" % i for i in range(17)]
+    return rng.choice(([], [junk(rng), junk(rng)], [b"a"], [b"a", b"A", b"b"], [b"a b"], [b"c" * 33], numbered[:16], numbered))
+
+
+def search(rng, pool):
+    names, name_ends = joined(some_names(rng))
+    leaves, leaf_ends = joined(some_leaves(rng, pool))
+    asked = names, some_ends(rng, names, name_ends), leaves, some_ends(rng, leaves, leaf_ends), some_query(rng)
+    if rng.randrange(3):
+        return *asked, rng.choice((0, 1, 2, 4, 16, 40))
+    need = reference.search(*asked, 0)[1]
+    return *asked, rng.choice((need, need, need + 2, max(need - 1, 0)))
+
+
+def pools(rng):
+    """Indexes to choose from, made once for many searches."""
+    return [some_index(rng) for _ in range(300)]
+
+
+def large(tally, box):
+    """The bounds of 65,536 bytes, and a leaf that fills them."""
+    row = [b"n1", b"t1", b"no reply, timeout"]
+    full = leaf_of([(d, row) for d in range(1, 2300)])
+    names = joined(NAMES)
+    for total in (65535, 65536, 65537):
+        leaf, word = leaf_of_size(total)
+        half = leaf_of_size(total - len(full))[0]
+        for at_end in (True, False):
+            box.at_end = at_end
+            tally.check("check of %d bytes" % total, box.check(leaf, 1), reference.check_leaf(leaf, 1))
+            tally.check("lookup in %d bytes" % total, box.lookup(leaf, 1, word), reference.lookup(leaf, 1, word))
+            asked = half, full, 3, b"timeout", 2299
+            tally.check("deciding in %d bytes" % total, box.deciding(*asked), reference.deciding(*asked))
+            for query in (b"no NEAR/1 timeout", b"w* OR n1"):
+                for room in (2298, 2299, 4096):
+                    asked = *names, *joined([half, full]), query, room
+                    tally.check("search in %d bytes" % total, box.search(*asked), reference.search(*asked))
+
+
+MADE = {"check": check, "lookup": lookup, "deciding": deciding, "write": write, "search": search}
+SECOND = {
+    "check": reference.check_leaf, "lookup": reference.lookup, "deciding": reference.deciding, "write": reference.write_leaf,
+    "search": reference.search,
+}
+POSSIBLE = {"check": (0, 1, 3), "lookup": (0, 1, 3), "deciding": (0, 1, 3), "write": (0, 1, 4, 5), "search": (0, 1, 2, 3, 4)}
+# A check has nothing beside its answer; of the other calls' accepted cases some must find, write or list something.
+NOT_EMPTY = "0 and not empty"
+
+
+def report(tally, counts):
+    for name, numbers in POSSIBLE.items():
+        kinds = numbers if name == "check" else (*numbers, NOT_EMPTY)
+        total = sum(counts[name][n] for n in numbers)
+        print("%s: %d calls; answer %s" % (name, total, ", ".join("%s: %d" % (kind, counts[name][kind]) for kind in kinds)))
+        for kind in kinds:
+            if counts[name][kind] * 100 < total:
+                tally.fail("too few cases of %s answered %s" % (name, kind))
+        if set(counts[name]) - {*numbers, NOT_EMPTY}:
+            tally.fail("%s has another answer" % name)
+
+
+def main(words):
+    faulthandler.enable()
+    calls = int(words[0]) if words else CALLS
+    seed = int(words[1]) if len(words) > 1 else SEED
+    rng = random.Random(seed)
+    box, tally = Box(), Tally()
+    counts = {name: collections.Counter() for name in MADE}
+    large(tally, box)
+    for i in range(calls):
+        if i % 20000 == 0:
+            pool = pools(rng)
+        name = rng.choice(tuple(MADE))
+        asked = search(rng, pool) if name == "search" else MADE[name](rng)
+        box.at_end, box.null = rng.randrange(4) != 0, rng.randrange(2) == 0
+        got = getattr(box, name)(*asked)
+        counts[name][got[0]] += 1
+        counts[name][NOT_EMPTY] += got[0] == 0 and got[1] > 0
+        if not tally.check((i, name, asked), got, SECOND[name](*asked)) and tally.failed > 10:
+            break
+    report(tally, counts)
+    return tally.finish()
+
+
+if __name__ == "__main__":
+    sys.exit(main(sys.argv[1:]))

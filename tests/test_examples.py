@@ -1,0 +1,55 @@
+#!/usr/bin/env python3
+"""The examples are built against the header and the static library and run; the README shows them; the header is C++ too."""
+import os
+import subprocess
+import sys
+import tempfile
+
+from paths import EXAMPLES, INCLUDE, ROOT
+from fts4box import ARCHIVE
+from tally import Tally
+
+EXPECTED = "docs 1\n7\n"
+WARNINGS = ["-Wall", "-Wextra", "-Werror"]
+CPLUSPLUS = '#include "fts4box.h"\nint main() { uint64_t second; return fts4_check(nullptr, 0, 3, &second) == FTS4_LEAF ? 0 : 1; }\n'
+
+
+def built(tally, what, command):
+    """Whether the compiler takes it and says nothing."""
+    done = subprocess.run(command, stdout=subprocess.PIPE, stderr=subprocess.STDOUT, text=True)
+    return tally.check("build of " + what, (done.returncode, done.stdout), (0, ""))
+
+
+def ran(program):
+    done = subprocess.run([program], stdout=subprocess.PIPE, stderr=subprocess.STDOUT, text=True, timeout=60)
+    return done.returncode, done.stdout
+
+
+def text(path):
+    with open(path, encoding="utf-8") as f:
+        return f.read()
+
+
+def main():
+    tally = Tally()
+    with tempfile.TemporaryDirectory() as folder:
+        program, source = os.path.join(folder, "program"), os.path.join(folder, "header.cc")
+        with open(source, "w", encoding="ascii") as f:
+            f.write(CPLUSPLUS)
+        c_example, rust_example = os.path.join(EXAMPLES, "search.c"), os.path.join(EXAMPLES, "search.rs")
+        for example in (c_example, rust_example):
+            tally.check("the README shows " + example, text(example) in text(os.path.join(ROOT, "README.md")), True)
+        linked = ["-L", os.path.dirname(ARCHIVE), "-l", "static=fts4box"]
+        commands = [
+            ("search.c", ["cc", *WARNINGS, "-std=c99", "-Wpedantic", "-I", INCLUDE, "-o", program, c_example, ARCHIVE], EXPECTED),
+            ("search.rs", ["rustc", "-D", "warnings", "-o", program, rust_example, *linked], EXPECTED),
+            ("the header as C++", ["g++", *WARNINGS, "-Wpedantic", "-I", INCLUDE, "-o", program, source, ARCHIVE], ""),
+        ]
+        for what, command, expected in commands:
+            if built(tally, what, command):
+                tally.check(what, ran(program), (0, expected))
+    return tally.finish()
+
+
+if __name__ == "__main__":
+    sys.exit(main())

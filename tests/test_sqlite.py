@@ -1,0 +1,135 @@
+#!/usr/bin/env python3
+"""The box against real SQLite's own MATCH, on tables filled, updated and deleted from over several transactions.
+
+    python3 tests/test_sqlite.py [TABLES [SEED]]
+
+The leaves come from tools/export_leaves.py. What both accept is compared exactly; what is left out stands in
+tests/sqlite_differences.py.
+"""
+import collections
+import os
+import random
+import sqlite3
+import sys
+import tempfile
+
+import paths  # noqa: F401
+import export_leaves
+import generated
+import reference
+import sqlite_differences as differences
+from box import Box
+from fts4box import joined
+from tally import Tally
+
+TABLES, QUERIES, SEED = 100, 100, 20267
+ROOM = 1024
+
+
+def new_table(path):
+    base = sqlite3.connect(path, isolation_level=None)
+    base.execute("pragma page_size=65536")
+    base.execute("pragma journal_mode=memory")
+    base.execute("create virtual table t using fts4(node, sent, outcome)")
+    return base
+
+
+def filled(rng, base):
+    """One segment to a transaction, since its docids rise; from the 17th on SQLite has merged 16 into a higher level."""
+    most = rng.choice((10, 10, 40, 300))
+    for _ in range(rng.choice((rng.randrange(1, 9), rng.randrange(17, 24)))):
+        docids = {rng.randrange(most) if rng.randrange(20) else rng.randrange(2**62) for _ in range(rng.randrange(1, 12))}
+        base.execute("begin")
+        for docid in sorted(docids):
+            change(rng, base, docid)
+        base.execute("commit")
+    if rng.randrange(12) == 0:
+        base.execute("insert into t(t) values ('optimize')")
+
+
+def change(rng, base, docid):
+    row = [text.decode() for text in generated.some_row(rng)]
+    if base.execute("select 1 from t where docid = ?", (docid,)).fetchone() is None:
+        base.execute("insert into t(docid, node, sent, outcome) values (?, ?, ?, ?)", (docid, *row))
+    elif rng.randrange(2):
+        base.execute("update t set node = ?, sent = ?, outcome = ? where docid = ?", (*row, docid))
+    elif rng.randrange(2):
+        base.execute("update t set outcome = ? where docid = ?", (row[2], docid))
+    else:
+        base.execute("delete from t where docid = ?", (docid,))
+
+
+def match(base, query):
+    """The docids that SQLite lists, rising, or None where it refuses the query."""
+    try:
+        return [row[0] for row in base.execute("select docid from t where t match ? order by docid", (query.decode(),))]
+    except sqlite3.Error:
+        return None
+
+
+def compare(rng, tally, counts, box, base, names, leaves):
+    for _ in range(QUERIES):
+        query = generated.some_query(rng)
+        tree = reference.read_query(query, names)
+        if tree is None or differences.may_end_together(tree):
+            counts["left out"] += 1
+            continue
+        theirs = match(base, query)
+        if theirs is None and differences.may_be_too_deep(tree):
+            counts["too deep for SQLite"] += 1
+            continue
+        listed = theirs or []
+        number, count, room = box.search(*joined(names), *joined(leaves), query, ROOM)
+        tally.check(query, (number, count, room), (0, len(listed), listed + [0] * (ROOM - len(listed))))
+        if theirs is None:
+            tally.fail("SQLite refuses %r" % query)
+        counts["compared"] += 1
+        counts["list docids"] += bool(listed)
+        counts["have NEAR"] += b"NEAR" in query
+
+
+def known(tally, box, base):
+    """Each known difference is one: it leaves the list once it is none."""
+    for docid, text in ((1, "x"), (2, "y x")):
+        base.execute("insert into t(docid, outcome) values (?, ?)", (docid, text))
+    asked = joined([b"node", b"sent", b"outcome"]) + joined(export_leaves.segments(base, "t"))
+    for query in differences.ONLY_SQLITE:
+        tally.check("SQLite accepts %r" % query, match(base, query) is not None, True)
+        tally.check("the box refuses %r" % query, box.search(*asked, query, 4), (2, 0, [0] * 4))
+    for query in differences.ONLY_BOX:
+        tally.check("SQLite refuses %r" % query, match(base, query), None)
+        tally.check("the box accepts %r" % query, box.search(*asked, query, 4)[0], 0)
+    for query in differences.NEAR_ITSELF:
+        tally.check("SQLite lists nothing for %r" % query, match(base, query), [])
+        tally.check("the box lists docids for %r" % query, box.search(*asked, query, 4)[1] > 0, True)
+
+
+def main(words):
+    tables = int(words[0]) if words else TABLES
+    rng = random.Random(int(words[1]) if len(words) > 1 else SEED)
+    box, tally, counts = Box(), Tally(), collections.Counter()
+    known(tally, box, new_table(":memory:"))
+    with tempfile.TemporaryDirectory() as folder:
+        for i in range(tables):
+            path = os.path.join(folder, "t%d.db" % i)
+            base = new_table(path)
+            filled(rng, base)
+            names, leaves = export_leaves.export(path, "t")
+            counts["tables"] += 1
+            counts["with several segments"] += len(leaves) > 1
+            counts["with two levels"] += base.execute("select count(distinct level) from t_segdir").fetchone()[0] > 1
+            compare(rng, tally, counts, box, base, [name.encode() for name in names], leaves)
+            base.close()
+            os.remove(path)
+    print("SQLite %s: " % sqlite3.sqlite_version + ", ".join("%d %s" % (n, what) for what, n in counts.items()))
+    for what in ("list docids", "have NEAR"):
+        if counts[what] * 4 < counts["compared"]:
+            tally.fail("too few queries " + what)
+    for what in ("with several segments", "with two levels"):
+        if counts[what] * 4 < tables:
+            tally.fail("too few tables " + what)
+    return tally.finish()
+
+
+if __name__ == "__main__":
+    sys.exit(main(sys.argv[1:]))

@@ -1,0 +1,127 @@
+#!/usr/bin/env python3
+"""A radio test bench's index, made with real SQLite, and the same queries asked of SQLite, the box and the one-search program.
+
+    python3 tools/demo.py
+
+48 nodes are probed in turn, a probe each 250 ms. Each probe is a row: node, when it was sent, outcome. The static library and
+the program must have been built. Exit status 1 if any two lists of docids differ.
+"""
+import os
+import random
+import sqlite3
+import subprocess
+import sys
+import tempfile
+
+import export_leaves
+import fts4box
+
+NODES, PERIOD_MS, TRANSACTIONS, ROUNDS_EACH, SEED = 48, 250, 7, 4, 1
+OUTCOMES = ("reply", "reply", "reply", "reply late", "no reply, timeout")
+TIMEOUT, LATE = "no reply, timeout", "reply late"
+QUERIES = (
+    "outcome:reply NOT outcome:timeout", "reply", "timeout", "n12 reply", "(n12 OR n13) NOT late", '"no reply"', "no NEAR/1 timeout",
+    "late NEAR/0 reply", "n1* late", "sent:t1* NOT n1*", "absent",
+)
+ROOM = 4096
+PROGRAM = os.path.join(fts4box.ROOT, "target", "bin", "fts4search")
+
+
+def probe(base, rng, number):
+    row = (number, "n%d" % (number % NODES), "t%d" % (number * PERIOD_MS), rng.choice(OUTCOMES))
+    base.execute("insert into probes(docid, node, sent, outcome) values (?, ?, ?, ?)", row)
+
+
+def revise(base, rng, number):
+    """Of the probes that were silent, some are answered late after all, and some are withdrawn."""
+    (outcome,) = base.execute("select outcome from probes where docid = ?", (number,)).fetchone()
+    if outcome == TIMEOUT and rng.randrange(4) == 0:
+        base.execute("update probes set outcome = ? where docid = ?", (LATE, number))
+    elif outcome == TIMEOUT and rng.randrange(8) == 0:
+        base.execute("delete from probes where docid = ?", (number,))
+
+
+def fill(base):
+    """Several transactions, so that the index has several segments; each revises the probes of the one before."""
+    rng = random.Random(SEED)
+    each = NODES * ROUNDS_EACH
+    for i in range(TRANSACTIONS):
+        base.execute("begin")
+        for number in range((i - 1) * each, i * each) if i else ():
+            revise(base, rng, number)
+        for number in range(i * each, (i + 1) * each):
+            probe(base, rng, number)
+        base.execute("commit")
+
+
+def by_sqlite(base, query):
+    return [row[0] for row in base.execute("select docid from probes where probes match ? order by docid", (query,))]
+
+
+def by_box(library, names, leaves, query):
+    number, beside, docids = fts4box.search(library, [name.encode() for name in names], leaves, query.encode(), ROOM)
+    return docids if number == 0 else "refused %d %d" % (number, beside)
+
+
+def by_program(folder, query):
+    """What the program lists for the leaf in the folder's leaf0.bin, or its one line where it refuses."""
+    lines = subprocess.run([PROGRAM], input=query.encode(), cwd=folder, stdout=subprocess.PIPE, check=True).stdout.decode().splitlines()
+    return [int(line) for line in lines[1:]] if lines[0] == "docs %d" % (len(lines) - 1) else lines[0]
+
+
+def count(answer):
+    return str(len(answer)) if isinstance(answer, list) else answer
+
+
+def made(database):
+    base = sqlite3.connect(database, isolation_level=None)
+    base.execute("pragma page_size=65536")
+    base.execute("create virtual table probes using fts4(node, sent, outcome)")
+    fill(base)
+    rows = base.execute("select count(*) from probes").fetchone()[0]
+    print("bench: %d nodes, %d probes, %d transactions; SQLite %s" % (NODES, rows, TRANSACTIONS, sqlite3.sqlite_version))
+    return base
+
+
+def exported(database, folder, when):
+    names, leaves = export_leaves.export(database, "probes")
+    export_leaves.write_out(folder, names, leaves)
+    print("exported %s: %d leaves, %d bytes" % (when, len(leaves), sum(map(len, leaves))))
+    return names, leaves
+
+
+def compare(base, folder, boxed):
+    """Prints the counts side by side; how many queries differ."""
+    different = 0
+    print("\n%-36s %8s %8s %8s" % ("query", "box", "program", "SQLite"))
+    for query, ours in zip(QUERIES, boxed):
+        one, theirs = by_program(folder, query), by_sqlite(base, query)
+        same = ours == one == theirs
+        different += not same
+        print("%-36s %8s %8s %8s%s" % (query, count(ours), count(one), count(theirs), "" if same else "  DIFFERENT"))
+    return different
+
+
+def main():
+    library = fts4box.load()
+    with tempfile.TemporaryDirectory() as folder:
+        database = os.path.join(folder, "bench.db")
+        base = made(database)
+        names, leaves = exported(database, folder, "for the box")
+        boxed = [by_box(library, names, leaves, query) for query in QUERIES]
+        base.execute("insert into probes(probes) values ('optimize')")
+        _, (merged,) = exported(database, folder, "for the program, after SQLite's optimize")
+        different = compare(base, folder, boxed)
+        base.close()
+        with open(os.path.join(folder, "leaf0.bin"), "wb") as f:
+            f.write(merged[:-1])
+        print("\nwith the leaf's last byte missing the program says: %s" % count(by_program(folder, QUERIES[0])))
+    if different:
+        print("%d of %d queries list DIFFERENT docids" % (different, len(QUERIES)))
+        return 1
+    print("all %d queries list the same docids" % len(QUERIES))
+    return 0
+
+
+if __name__ == "__main__":
+    sys.exit(main())
