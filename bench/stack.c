@@ -11,9 +11,6 @@
 #include <string.h>
 #include <sys/mman.h>
 
-/* A search in one row takes time that grows with the square of its positions, and stack that doesn't grow with them. */
-enum { SEARCHED_ROW = 600 };
-
 enum { STACK = 4 << 20, PATTERN = 0xA5, MAX_BYTES = 65536, MAX_LEAVES = 8, MAX_QUERY = 512, MAX_TEXTS = 4096, ROOM = 65536 };
 
 static uint8_t *stack;
@@ -172,7 +169,7 @@ static size_t depth_over_leaves(void (*call)(void))
     size_t most = 0;
     for (size_t count = 1; count <= MAX_LEAVES; count *= 2)
         for (int rows = 0; rows < 2; rows++) {
-            use_leaves(count, call == search && !rows ? SEARCHED_ROW : MAX_BYTES, rows);
+            use_leaves(count, MAX_BYTES, rows);
             if (fts4_check(leaves, leaf_ends[0], 3, &second) != FTS4_ACCEPTED)
                 exit(2);
             most = call == search ? search_depth(most) : larger(most, call);

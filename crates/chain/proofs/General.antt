@@ -1,13 +1,13 @@
 -- Laws that do not speak of chains: what stands at a place of a list, and equivalences.
-use Prim.Native.Nat.{ℕ, _+_, _≤_, _<_}
+use Prim.Native.Nat.{ℕ, _+_, _-_, _≤_, _<_}
 use native.Mathlib.Omega.{arith}
 use native.Mathlib.Numerals.{add-one}
 use mathlib.Core.Path.{_≡_, refl, sym, ap, _∙_}
 use mathlib.Core.Bool.{Bool, true, false}
 use mathlib.Core.Logic.{_↔_}
-use mathlib.Core.List.{List, [], _∷_, _++_}
-use lib.ListN.{length, drop, drop-of-length-le, length-drop}
-use lib.Seq.{drop-cons, drop-drop, drop-append-seam}
+use mathlib.Core.List.{List, [], _∷_, _++_, append-nil}
+use lib.ListN.{length, getD, take, drop, drop-of-length-le, length-drop, length-take, length-append, List·getD-append}
+use lib.Seq.{drop-cons, drop-drop, drop-append-seam, drop-at, take-all, getD-take}
 use Rattle.common.proofs.Cases.{split, false-not-true}
 
 -- ---- lists
@@ -51,3 +51,35 @@ always p = (λ _. p, λ _. refl)
 -- a test that is false of what holds
 pub not-so : {P : Type 0} {b : Bool} → b ≡ true ↔ P → b ≡ false → P → ⊥
 not-so i e p = false-not-true (sym e ∙ i .1 p)
+
+-- ---- a part that is lent
+
+-- the part from `at` on was lent and came back as `y`
+module _ (l y : List ℕ) (at : ℕ) (h : at ≤ length l) (k : length y ≡ length (take (length l - at) (drop at l))) where
+  abbrev pub back : List ℕ
+  back = take at l ++ (y ++ drop (length l - at) (drop at l))
+
+  back-is : back ≡ take at l ++ y
+  back-is =
+      let none : drop (length l - at) (drop at l) ≡ [] = drop-of-length-le (drop at l) {i = length l - at} (omega (arith, length-drop at l)) in
+      rw (none, append-nil) refl
+
+  size : length y ≡ length l - at
+  size = omega (arith, k, length-take (length l - at) (drop at l), length-drop at l)
+
+  pub back-length : length back ≡ length l
+  back-length = ap length back-is ∙ length-append (take at l) y ∙ omega (arith, size, length-take at l)
+
+  pub back-part : take (length back - at) (drop at back) ≡ y
+  back-part =
+      ap (λ (n : ℕ). take (n - at) (drop at back)) back-length
+      ∙ ap (λ (m : List ℕ). take (length l - at) (drop at m)) back-is
+      ∙ ap (take (length l - at)) (drop-at (take at l) y at (omega (arith, length-take at l)))
+      ∙ take-all (length l - at) y (omega (arith, size))
+
+  -- what is before it stays
+  pub back-before : (n : ℕ) → n < at → getD back n 0 ≡ getD l n 0
+  back-before n m =
+      ap (λ (m : List ℕ). getD m n 0) back-is
+      ∙ List·getD-append (take at l) y 0 n (omega (arith, length-take at l))
+      ∙ getD-take at l n 0 m

@@ -1,11 +1,11 @@
 pub mod General
 pub mod Ends
 pub mod Marks
+pub mod Keys
+pub mod Windows
 pub mod Walks
-pub mod Occurring
-pub mod Nearing
-pub mod Reaching
+pub mod Marking
+pub mod Stepping
 pub mod Nodes
-pub mod Occurrences
-pub mod Frontiers
+pub mod Going
 pub mod Chaining

@@ -60,8 +60,12 @@ abbrev pub maxCandidates : ℕ
 maxCandidates = 65536
 
 -- a bit for each, in words of 64 bits
+abbrev pub bitWords : ℕ
+bitWords = 1024
+
+-- the bits, and behind them room for some positions
 abbrev pub markWords : ℕ
-markWords = 1024
+markWords = 1536
 
 -- the hits are the whole row, and their positions fit the marks
 pub record RowFits (leaves starts masks : List ℕ) (hits : List Hit) : Type 0 where

@@ -1,23 +1,24 @@
--- How a chain is evaluated: from the left, operand by operand. The candidates of an operand are the positions of its first
--- word, numbered as the row's walk finds them. A candidate is an occurrence if the operand's further words follow it. It is
--- reached if it is an occurrence of the first operand, or one that is near a reached candidate of the operand before.
--- Which candidates are reached is kept in bits, 64 to a word.
+-- How a chain is evaluated: from the left, word by word. The candidates of a word are its positions, numbered as the row's walk
+-- finds them. A candidate of the chain's first word is a source if its column is allowed; a candidate of a further word, if it
+-- is reached: its column is allowed, and a source of the word before lies in its window. Which candidates are reached is
+-- kept in bits, 64 to a word.
 use Prim.Native.Nat.{ℕ, _+_, _-_, _/_, _%_, _^_, _≤_, _<_}
 use mathlib.Core.Path.{_≡_}
 use mathlib.Core.Bool.{Bool, true, false}
 use mathlib.Core.Logic.{_↔_, _⊎_}
 use mathlib.Core.List.{List, _∷_, List·Memᴰ}
 use lib.ListN.{getD, drop, set}
-use lib.Bits.{bitOr}
-use lib.Dec.{eqb, leb}
-use Rattle.common.specs.Pick.{pick, both}
+use lib.Bits.{bitXor}
+use lib.Dec.{eqb, ltb}
+use Rattle.common.specs.Pick.{pick}
+use Rattle.doclist.specs.Doclist.{positionLimit}
 use Rattle.lexer.specs.Token.{bare, nears, tieNumber, allows}
 use Rattle.meaning.specs.Satisfies.{bareDistance}
-use Rattle.row.specs.Row.{Hit, StandsIn}
+use Rattle.row.specs.Row.{Hit}
 use Rattle.row.specs.Walk.{Spot, spot, candidates}
 use Rattle.chain.specs.Chains.{runEnd}
-use Rattle.chain.specs.declared.Operand.{Operand}
-use Rattle.chain.specs.declared.Previous.{Previous}
+use Rattle.chain.specs.Keys.{columnSize, keyOf, Ordered, SomeKey}
+use Rattle.chain.specs.declared.Window.{Window}
 
 -- ---- marks
 
@@ -25,19 +26,17 @@ use Rattle.chain.specs.declared.Previous.{Previous}
 abbrev pub marked : List ℕ → ℕ → Bool
 marked marks j = allows (getD marks (j / 64) 0) (j % 64)
 
--- a word with bit k set or not; bits are put in order, and the first clears the word
+-- fresh marks count as clear
+abbrev pub oldOf : Bool → List ℕ → ℕ → Bool
+oldOf fresh marks j = pick fresh false (marked marks j)
+
+-- a word with bit k set or not
 abbrev pub wordWith : ℕ → ℕ → Bool → ℕ
-wordWith word k b = pick (eqb k 0) (pick b 1 0) (pick b (bitOr word (2 ^ k)) word)
+wordWith word k b = pick (allows word k) (pick b word (bitXor word (2 ^ k))) (pick b (bitXor word (2 ^ k)) word)
 
 -- the marks with candidate j marked or not
 abbrev pub putAt : List ℕ → ℕ → Bool → List ℕ
 putAt marks j b = set marks (j / 64) (wordWith (getD marks (j / 64) 0) (j % 64) b)
-
--- ---- distances
-
--- the distance at the NEAR before a word
-abbrev pub distanceAt : List ℕ → List ℕ → ℕ → ℕ
-distanceAt ties distances at = pick (eqb (getD ties at 0) (tieNumber (nears bare))) bareDistance (getD distances at 0)
 
 -- ---- candidates
 
@@ -53,63 +52,73 @@ SomeMarked marks cs = (j : ℕ) × (s : Spot) × Nth cs j s × (marked marks j �
 abbrev pub SomeAllowed : List Spot → ℕ → Type 0
 SomeAllowed cs columns = (s : Spot) × List·Memᴰ s cs × (allows columns (s .column) ≡ true)
 
--- a candidate is an occurrence of its operand
-pub record OccursAt (hits : List Hit) (o : Operand) (column position : ℕ) : Type 0 where
-  pub allowed : allows (o .columns) column ≡ true
-  pub further : (k : ℕ) → o .from < k → k < o .end → StandsIn hits k column (position + (k - o .from))
+-- the marks tell for which candidates something holds, and `r` whether there are any
+pub record Tells (cs : List Spot) (Holds : ℕ → ℕ → ℕ → Type 0) (marks : List ℕ) (r : Bool) : Type 0 where
+  pub small : (j column position : ℕ) → Nth cs j (spot column position) → position < positionLimit
+  pub marks-tell : (j column position : ℕ) → Nth cs j (spot column position) → (marked marks j ≡ true) ↔ Holds j column position
+  pub some : (r ≡ true) ↔ SomeMarked marks cs
 
--- whether a position is near the first position of a candidate of the operand before, which stands in the column `other`
-abbrev pub nearOf : Previous → ℕ → ℕ → ℕ → ℕ → Bool
-nearOf b column position other first = both (eqb other column) (both (leb position (first + b .back)) (leb first (position + b .ahead)))
+-- ---- sources and windows
 
--- a position is near a marked candidate
-pub record NearMarked (marks : List ℕ) (cs : List Spot) (b : Previous) (column position : ℕ) : Type 0 where
+-- the chain so far can end at a candidate of the word before
+abbrev pub sourceOf : Bool → ℕ → List ℕ → ℕ → ℕ → Bool
+sourceOf first set before j column = pick first (allows set column) (marked before j)
+
+-- a source lies in the window at a position
+pub record NearSource (source : ℕ → ℕ → Bool) (cs : List Spot) (t : Window) (column position : ℕ) : Type 0 where
   pub number : ℕ
-  pub first : ℕ
-  pub nth : Nth cs number (spot column first)
-  pub is-marked : marked marks number ≡ true
-  pub not-behind : position ≤ first + b .back
-  pub not-ahead : first ≤ position + b .ahead
+  pub place : ℕ
+  pub nth : Nth cs number (spot column place)
+  pub is-source : source number column ≡ true
+  pub not-behind : position ≤ place + t .back
+  pub not-ahead : place < position + t .ahead
 
--- a candidate is reached
-pub record ReachedAt (hits : List Hit) (o : Operand) (b : Previous) (before : List ℕ) (column position : ℕ) : Type 0 where
-  pub occurs : OccursAt hits o column position
-  pub reached : (b .none ≡ true) ⊎ NearMarked before (candidates (b .word) hits) b column position
-
--- the marks tell which candidates of an operand are reached, and `r` whether there are any
-pub record Reaches (hits : List Hit) (o : Operand) (b : Previous) (before marks : List ℕ) (r : Bool) : Type 0 where
-  pub marks-tell : (j column position : ℕ) → Nth (candidates (o .from) hits) j (spot column position)
-      → (marked marks j ≡ true) ↔ ReachedAt hits o b before column position
-  pub some : (r ≡ true) ↔ SomeMarked marks (candidates (o .from) hits)
-
--- ---- what the functions ask of their arguments
-
--- an operand has a word, and its words are numbers below 2^63
-pub record Forward (o : Operand) : Type 0 where
-  pub some : o .from < o .end
-  pub small : o .end < 2 ^ 63
+-- which candidates of the word number i a step marks
+abbrev pub Steps : List Hit → ℕ → ℕ → Window → (ℕ → ℕ → Bool) → List ℕ → Bool → Type 0
+Steps hits i columns t source marks r =
+    Tells (candidates i hits) (λ j column position. (allows columns column ≡ true) × NearSource source (candidates (t .word) hits) t column position) marks r
 
 -- no sum with a position overflows
-pub record Bounded (b : Previous) : Type 0 where
-  pub back-small : b .back < 2 ^ 63 + 65536
-  pub ahead-small : b .ahead < 2 ^ 63 + 65536
+pub record Bounded (t : Window) : Type 0 where
+  pub back-small : t .back < 2 ^ 63 + 65537
+  pub ahead-small : t .ahead < 2 ^ 63 + 65537
 
--- ---- operands in the arrays
+-- ---- some sources at a time, as keys
 
--- the operand that begins with the word `at`
-abbrev pub operandAt : List ℕ → List ℕ → ℕ → Operand
-operandAt ties columns at = record { from = at; end = runEnd 1 ties at; columns = getD columns at 0 }
+-- the window at a position, in keys
+abbrev pub InWindow : Window → List ℕ → ℕ → ℕ → ℕ → Type 0
+InWindow t keys count column position =
+    SomeKey keys count (keyOf column (position - t .back)) (keyOf column (pick (ltb columnSize (position + t .ahead)) columnSize (position + t .ahead)))
 
--- before it, the operand from the word `from` up to the word `end`
-abbrev pub previousAt : List ℕ → List ℕ → ℕ → ℕ → Previous
-previousAt ties distances from end =
-    record {
-      none = false;
-      word = from;
-      back = end - from + distanceAt ties distances end;
-      ahead = runEnd 1 ties end - end + distanceAt ties distances end;
-    }
+-- a candidate was reached before, or is by one of the keys
+abbrev pub Told : Bool → ℕ → Window → List ℕ → ℕ → ℕ → ℕ → Type 0
+Told old columns t keys count column position =
+    (old ≡ true) ⊎ ((allows columns column ≡ true) × InWindow t keys count column position)
 
--- before the first operand
-abbrev pub noPrevious : ℕ → Previous
-noPrevious from = record { none = true; word = from; back = 0; ahead = 0 }
+-- which candidates of the word number i are marked then
+abbrev pub Marks : List Hit → ℕ → ℕ → Window → List ℕ → ℕ → Bool → List ℕ → List ℕ → Bool → Type 0
+Marks hits i columns t keys count fresh before marks r =
+    Tells (candidates i hits) (λ j column position. Told (oldOf fresh before j) columns t keys count column position) marks r
+
+-- the key of a position is added, if it is wanted and its column is allowed
+pub record Pushes (keys : List ℕ) (count : ℕ) (wanted : Bool) (columns column position : ℕ) (put : List ℕ) (r : ℕ) : Type 0 where
+  pub ordered : Ordered put r
+  pub has : (low limit : ℕ) → SomeKey put r low limit
+      ↔ (SomeKey keys count low limit ⊎ ((wanted ≡ true) × (allows columns column ≡ true) × (low ≤ keyOf column position) × (keyOf column position < limit)))
+
+-- ---- the words in the arrays
+
+-- the distance at the NEAR before a word
+abbrev pub distanceAt : List ℕ → List ℕ → ℕ → ℕ
+distanceAt ties distances at = pick (eqb (getD ties at 0) (tieNumber (nears bare))) bareDistance (getD distances at 0)
+
+-- where the word `end` may stand beside the word before it, whose operand begins with the word `from`
+abbrev pub windowOf : List ℕ → List ℕ → ℕ → ℕ → Window
+windowOf ties distances from end =
+    pick (eqb (getD ties end 0) 1)
+    (record { word = end - 1; back = 1; ahead = 0 })
+    (record { word = end - 1; back = 1 + distanceAt ties distances end; ahead = runEnd 1 ties end - from + distanceAt ties distances end })
+
+-- where the operand of the word `end` begins
+abbrev pub startOf : List ℕ → ℕ → ℕ → ℕ
+startOf ties from end = pick (ltb 1 (getD ties end 0)) end from

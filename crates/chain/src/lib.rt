@@ -1,25 +1,30 @@
-// Whether a NEAR chain of a compiled query holds in one row. The chain is evaluated from the left, operand by operand (a
-// word or a phrase): the candidates of an operand are the positions of its first word, numbered as the row's walk finds
-// them, and a bit for each says whether the chain so far can end there.
+// Whether a NEAR chain of a compiled query holds in one row. The chain is evaluated from the left, word by word: the
+// candidates of a word are its positions, numbered as the row's walk finds them, and a bit for each says whether the chain so
+// far can end there. A word is held against the marked positions of the word before, so many at a time as there are keys;
+// these are in order, so that a row with many positions does not take the square of their number.
 use row::Found;
 ghost use mathlib.Core.Path.{_≡_};
 ghost use mathlib.Core.Logic.{_↔_};
 ghost use mathlib.Core.Bool.{true};
 ghost use mathlib.Core.List.{List};
-ghost use Prim.Native.Nat.{_≤_, _<_};
+ghost use Prim.Native.Nat.{_+_, _≤_, _<_};
 ghost use lib.ListN.{length};
 ghost use Rattle.row.specs.Row.{Hit};
 ghost use Rattle.row.specs.Walk.{WholeRow, candidates};
 ghost use Rattle.doclist.specs.Doclist.{positionLimit};
-ghost use Rattle.chain.specs.Chains.{RowFits, markWords, runEnd, chainEnd, Decides};
-ghost use Rattle.chain.specs.Reaching.{marked, wordWith, putAt, distanceAt, SomeAllowed, OccursAt, nearOf, NearMarked, ReachedAt, Forward, Bounded, Reaches, operandAt, previousAt};
-ghost use Rattle.chain.specs.Frontier.{Continues};
+ghost use Rattle.chain.specs.Chains.{RowFits, bitWords, markWords, runEnd, chainEnd, Decides};
+ghost use Rattle.chain.specs.Keys.{Ordered, Bound, SomeKey, Inserts};
+ghost use Rattle.chain.specs.Reaching.{marked, oldOf, wordWith, putAt, distanceAt, SomeAllowed, Bounded, Told, InWindow, Pushes, sourceOf, Marks, Steps, windowOf, startOf};
+ghost use Rattle.chain.specs.Going.{Continues};
 
 // A row has at most as many positions as the leaves have bytes.
 pub const MAX_CANDIDATES: usize = 65536;
 
 // The number of words that hold a bit for each candidate.
-pub const MARK_WORDS: usize = 1024;
+const BIT_WORDS: usize = 1024;
+
+// The number of words of the rooms: the bits, and behind them the keys.
+pub const MARK_WORDS: usize = 1536;
 
 // The bits of a word.
 const WORD_BITS: usize = 64;
@@ -36,25 +41,16 @@ const NEAR_WRITTEN: u8 = 3;
 // The distance of a NEAR with no number.
 const BARE_DISTANCE: u64 = 10;
 
-// An operand of a chain.
-struct Operand {
-    // Its first word.
-    from: usize,
-    // The word behind its last.
-    end: usize,
-    // The columns that it may stand in.
-    columns: u16,
-}
+// More than any position.
+const COLUMN_SIZE: u64 = 0x1_0000_0000;
 
-// What is asked of an operand beside the one before it in the chain.
-struct Previous {
-    // Nothing: it is the first operand.
-    none: bool,
-    // The first word of the operand before.
+// Where a word may stand beside the one before it in its chain.
+struct Window {
+    // The word before.
     word: usize,
-    // How far behind a candidate of the operand before, at most, one of this operand may begin.
+    // At most so far behind it.
     back: u64,
-    // And how far before it.
+    // And less far than this before it.
     ahead: u64,
 }
 
@@ -69,24 +65,34 @@ fn is_marked(marks: &[u64], j: usize) -> bool
     (marks[at] >> (j % WORD_BITS)) % 2 == 1
 }
 
-// A word with bit `k` set or not. The first bit clears the word.
+// Whether candidate `j` is marked, in marks that are not fresh.
+fn was_marked(fresh: bool, marks: &[u64], j: usize) -> bool
+    ensures { λ r. ⌜ r ≡ oldOf fresh (now (marks .entry)) j ⌝ }
+{
+    if fresh {
+        return false;
+    }
+    is_marked(marks, j)
+}
+
+// A word with bit `k` set or not.
 fn with_bit(word: u64, k: usize, set: bool) -> u64
     requires { ⌜ k < 64 ⌝ }
     ensures { λ r. ⌜ r ≡ wordWith word k set ⌝ }
 {
-    if k == 0 {
+    if (word >> k) % 2 == 1 {
         if set {
-            return 1;
+            return word;
         }
-        return 0;
+        return word ^ (1u64 << k);
     }
     if set {
-        return word | (1u64 << k);
+        return word ^ (1u64 << k);
     }
     word
 }
 
-// Marks candidate `j` or not. Marks are put in the order of the candidates.
+// Marks candidate `j` or not.
 fn put(marks: &mut [u64], j: usize, reached: bool)
     ensures { λ _. ⌜ now (marks .exit) ≡ putAt (now (marks .entry)) j reached ⌝ }
 {
@@ -137,7 +143,7 @@ fn distance(ties: &[u8], distances: &[u16], at: usize) -> u64
 }
 
 // Whether the query's word number `i` stands in one of the columns.
-fn stands_in(leaves: &[u8], starts: &[u32], masks: &[u16], i: usize, columns: u16) -> bool
+fn stands_in(leaves: &[u8], starts: &[u16], masks: &[u16], i: usize, columns: u16) -> bool
     ensures { λ r. ⌜ ((hits : List Hit) → WholeRow (now (leaves .entry)) (now (starts .entry)) (now (masks .entry)) hits → (r ≡ true) ↔ SomeAllowed (candidates i hits) columns) ⌝ }
 {
     let mut found = row::first(leaves, starts, masks, i);
@@ -152,121 +158,144 @@ fn stands_in(leaves: &[u8], starts: &[u32], masks: &[u16], i: usize, columns: u1
     }
 }
 
-// Whether a candidate is an occurrence of its operand: the column is allowed, and the further words follow.
-fn occurs(
-    leaves: &[u8],
-    starts: &[u32],
-    masks: &[u16],
-    operand: Operand,
+// The first of the keys that is not below `key`.
+fn lower_bound(keys: &[u64], count: usize, key: u64) -> usize
+    requires { ⌜ count ≤ length (now keys) ⌝ }
+    ensures { λ r. ⌜ (r ≤ count) × (Ordered (now (keys .entry)) count → Bound (now (keys .entry)) count key r) ⌝ }
+{
+    let mut low: usize = 0;
+    let mut high = count;
+    while low < high {
+        let middle = low + (high - low) / 2;
+        if keys[middle] < key {
+            low = middle + 1;
+        } else {
+            high = middle;
+        }
+    }
+    low
+}
+
+// Whether one of the keys lies from `low` on, below `limit`.
+fn some_key(keys: &[u64], count: usize, low: u64, limit: u64) -> bool
+    requires { ⌜ count ≤ length (now keys) ⌝ }
+    ensures { λ r. ⌜ (Ordered (now (keys .entry)) count → (r ≡ true) ↔ SomeKey (now (keys .entry)) count low limit) ⌝ }
+{
+    if count == 0 {
+        return false;
+    }
+    if keys[count - 1] < low {
+        return false;
+    }
+    if limit <= keys[0] {
+        return false;
+    }
+    let at = lower_bound(keys, count, low);
+    if count <= at {
+        return false;
+    }
+    keys[at] < limit
+}
+
+// Puts a key to its place among the others.
+fn insert(keys: &mut [u64], count: usize, key: u64)
+    requires { ⌜ count < length (now keys) ⌝ }
+    ensures { λ _. ⌜ (Ordered (now (keys .entry)) count → Inserts (now (keys .entry)) (now (keys .exit)) count key) ⌝ }
+{
+    let mut at = count;
+    while 0 < at {
+        let before = keys[at - 1];
+        if before <= key {
+            keys[at] = key;
+            return;
+        }
+        keys[at] = before;
+        at -= 1;
+    }
+    keys[0] = key;
+}
+
+// Adds the key of a position, if it is wanted and its column is allowed. How many keys there are then.
+fn push(
+    keys: &mut [u64],
+    count: usize,
+    wanted: bool,
+    columns: u16,
     column: u64,
     position: u64,
-) -> bool
-    requires { ⌜ (position < positionLimit) × Forward operand ⌝ }
-    ensures { λ r. ⌜ ((hits : List Hit) → WholeRow (now (leaves .entry)) (now (starts .entry)) (now (masks .entry)) hits → (r ≡ true) ↔ OccursAt hits operand column position) ⌝ }
+) -> usize
+    requires { ⌜ (position < positionLimit) × (count < length (now keys)) ⌝ }
+    ensures { λ r. ⌜ (r ≤ length (now (keys .entry))) × (Ordered (now (keys .entry)) count → Pushes (now (keys .entry)) count wanted columns column position (now (keys .exit)) r) ⌝ }
 {
-    if !row::contains(operand.columns, column as usize) {
-        return false;
+    if !wanted {
+        return count;
     }
-    let mut k = operand.from;
-    let mut at = position;
-    while k + 1 < operand.end {
-        k += 1;
-        at += 1;
-        if !row::stands(leaves, starts, masks, k, column, at) {
-            return false;
-        }
+    if !row::contains(columns, column as usize) {
+        return count;
     }
-    true
+    insert(keys, count, column * COLUMN_SIZE + position);
+    count + 1
 }
 
-// Whether a position is near the first position of a candidate of the operand before, and in the same column.
-fn is_near(previous: Previous, column: u64, position: u64, other: u64, first: u64) -> bool
-    requires { ⌜ (position < positionLimit) × (first < positionLimit) × Bounded previous ⌝ }
-    ensures { λ r. ⌜ r ≡ nearOf previous column position other first ⌝ }
+// Whether one of the keys lies in the window at a position.
+fn in_window(tie: Window, keys: &[u64], count: usize, column: u64, position: u64) -> bool
+    requires { ⌜ (column < 16) × (position < positionLimit) × Bounded tie × (count ≤ length (now keys)) ⌝ }
+    ensures { λ r. ⌜ (Ordered (now (keys .entry)) count → (r ≡ true) ↔ InWindow tie (now (keys .entry)) count column position) ⌝ }
 {
-    if other != column {
-        return false;
+    let base = column * COLUMN_SIZE;
+    let mut low: u64 = 0;
+    if tie.back < position {
+        low = position - tie.back;
     }
-    if first + previous.back < position {
-        return false;
+    let mut limit = position + tie.ahead;
+    if COLUMN_SIZE < limit {
+        limit = COLUMN_SIZE;
     }
-    if position + previous.ahead < first {
-        return false;
-    }
-    true
+    some_key(keys, count, base + low, base + limit)
 }
 
-// Whether a marked candidate of the operand before is near.
-fn near(
-    leaves: &[u8],
-    starts: &[u32],
-    masks: &[u16],
-    previous: Previous,
-    before: &[u64],
-    column: u64,
-    position: u64,
-) -> bool
-    requires { ⌜ (position < positionLimit) × Bounded previous ⌝ }
-    ensures { λ r. ⌜ ((hits : List Hit) → RowFits (now (leaves .entry)) (now (starts .entry)) (now (masks .entry)) hits → (r ≡ true) ↔ NearMarked (now (before .entry)) (candidates (previous .word) hits) previous column position) ⌝ }
-{
-    let mut j: usize = 0;
-    let mut found = row::first(leaves, starts, masks, previous.word);
-    loop {
-        let Found::At(place) = found else {
-            return false;
-        };
-        if MAX_CANDIDATES <= j {
-            return false;
-        }
-        if is_near(previous, column, position, place.column, place.position) {
-            if is_marked(before, j) {
-                return true;
-            }
-        }
-        j += 1;
-        found = row::advance(leaves, starts, masks, previous.word, place);
-    }
-}
-
-// Whether a candidate of an operand is reached.
+// Whether a candidate was reached before, or is by one of the keys.
 fn is_reached(
-    leaves: &[u8],
-    starts: &[u32],
-    masks: &[u16],
-    operand: Operand,
-    previous: Previous,
-    before: &[u64],
+    old: bool,
+    columns: u16,
+    tie: Window,
+    keys: &[u64],
+    count: usize,
     column: u64,
     position: u64,
 ) -> bool
-    requires { ⌜ (position < positionLimit) × Forward operand × Bounded previous ⌝ }
-    ensures { λ r. ⌜ ((hits : List Hit) → RowFits (now (leaves .entry)) (now (starts .entry)) (now (masks .entry)) hits → (r ≡ true) ↔ ReachedAt hits operand previous (now (before .entry)) column position) ⌝ }
+    requires { ⌜ (position < positionLimit) × Bounded tie × (count ≤ length (now keys)) ⌝ }
+    ensures { λ r. ⌜ (Ordered (now (keys .entry)) count → (r ≡ true) ↔ Told old columns tie (now (keys .entry)) count column position) ⌝ }
 {
-    if !occurs(leaves, starts, masks, operand, column, position) {
-        return false;
-    }
-    if previous.none {
+    if old {
         return true;
     }
-    near(leaves, starts, masks, previous, before, column, position)
+    if !row::contains(columns, column as usize) {
+        return false;
+    }
+    in_window(tie, keys, count, column, position)
 }
 
-// Marks the candidates of an operand that are reached. Whether there are any.
-fn reach(
+// Marks the candidates of the word `i` that are reached by one of the keys. Marks that are not fresh stay. Whether there are
+// any.
+fn mark(
     leaves: &[u8],
-    starts: &[u32],
+    starts: &[u16],
     masks: &[u16],
-    operand: Operand,
-    previous: Previous,
-    before: &[u64],
+    i: usize,
+    columns: u16,
+    tie: Window,
+    keys: &[u64],
+    count: usize,
+    fresh: bool,
     marks: &mut [u64],
 ) -> bool
-    requires { ⌜ Forward operand × Bounded previous ⌝ }
-    ensures { λ r. ⌜ ((hits : List Hit) → RowFits (now (leaves .entry)) (now (starts .entry)) (now (masks .entry)) hits → markWords ≤ length (now (marks .entry)) → Reaches hits operand previous (now (before .entry)) (now (marks .exit)) r) ⌝ }
+    requires { ⌜ Bounded tie × (count ≤ length (now keys)) ⌝ }
+    ensures { λ r. ⌜ ((hits : List Hit) → RowFits (now (leaves .entry)) (now (starts .entry)) (now (masks .entry)) hits → markWords ≤ length (now (marks .entry)) → Ordered (now (keys .entry)) count → Marks hits i columns tie (now (keys .entry)) count fresh (now (marks .entry)) (now (marks .exit)) r) ⌝ }
 {
     let mut some = false;
     let mut j: usize = 0;
-    let mut found = row::first(leaves, starts, masks, operand.from);
+    let mut found = row::first(leaves, starts, masks, i);
     loop {
         let Found::At(place) = found else {
             return some;
@@ -274,101 +303,153 @@ fn reach(
         if MAX_CANDIDATES <= j {
             return some;
         }
-        let reached = is_reached(
-            leaves,
-            starts,
-            masks,
-            operand,
-            previous,
-            before,
-            place.column,
-            place.position,
-        );
+        let old = was_marked(fresh, marks, j);
+        let reached = is_reached(old, columns, tie, keys, count, place.column, place.position);
         put(marks, j, reached);
         some = some || reached;
         j += 1;
-        found = row::advance(leaves, starts, masks, operand.from, place);
+        found = row::advance(leaves, starts, masks, i, place);
     }
 }
 
-// Marks what is reached of the operand from the word `end` up to the word `next`, where `before` marks what is reached of the
-// operand before it, which begins with the word `from`. Whether anything is.
-fn reach_next(
-    ties: &[u8],
-    distances: &[u16],
-    columns: &[u16],
-    from: usize,
-    end: usize,
-    next: usize,
-    leaves: &[u8],
-    starts: &[u32],
-    masks: &[u16],
-    before: &[u64],
-    marks: &mut [u64],
-) -> bool
-    requires { ⌜ (from ≤ end) × (end < length (now ties)) × (length (now ties) ≤ length (now distances)) × (length (now ties) ≤ length (now columns)) × (next ≡ runEnd 1 (now ties) end) ⌝ }
-    ensures { λ r. ⌜ ((hits : List Hit) → RowFits (now (leaves .entry)) (now (starts .entry)) (now (masks .entry)) hits → markWords ≤ length (now (marks .entry)) → Reaches hits (operandAt (now (ties .entry)) (now (columns .entry)) end) (previousAt (now (ties .entry)) (now (distances .entry)) from end) (now (before .entry)) (now (marks .exit)) r) ⌝ }
+// Whether the chain so far can end at a candidate: of the first word, in its columns; of another, where it is marked.
+fn is_source(first: bool, set: u16, before: &[u64], j: usize, column: u64) -> bool
+    ensures { λ r. ⌜ r ≡ sourceOf first set (now (before .entry)) j column ⌝ }
 {
-    let n = distance(ties, distances, end);
-    let operand = Operand {
-        from: end,
-        end: next,
-        columns: columns[end],
-    };
-    let previous = Previous {
-        none: false,
-        word: from,
-        back: (end - from) as u64 + n,
-        ahead: (next - end) as u64 + n,
-    };
-    reach(leaves, starts, masks, operand, previous, before, marks)
+    if first {
+        return row::contains(set, column as usize);
+    }
+    is_marked(before, j)
 }
 
-// Whether the further operands of a chain can be reached, where `before` marks what is reached of the operand from the word
-// `from` up to the word `end`, and some of it is.
+// Marks the candidates of the word `i`, in the columns of `set`, that are reached from the word before it; if that is the first of
+// the chain, from its candidates in the columns of `origin`. The keys lie behind the marks of the word before. Whether any are
+// reached.
+fn step(
+    leaves: &[u8],
+    starts: &[u16],
+    masks: &[u16],
+    i: usize,
+    set: u16,
+    tie: Window,
+    first: bool,
+    origin: u16,
+    before: &mut [u64],
+    marks: &mut [u64],
+) -> bool
+    requires { ⌜ Bounded tie × (bitWords < length (now before)) ⌝ }
+    ensures { λ r. ⌜ ((hits : List Hit) → RowFits (now (leaves .entry)) (now (starts .entry)) (now (masks .entry)) hits → markWords ≤ length (now (marks .entry)) → Steps hits i set tie (sourceOf first origin (now (before .entry))) (now (marks .exit)) r) ⌝ }
+{
+    let mut fresh = true;
+    let mut len: usize = 0;
+    let mut j: usize = 0;
+    let mut found = row::first(leaves, starts, masks, tie.word);
+    loop {
+        let keys = &before[BIT_WORDS..];
+        let Found::At(place) = found else {
+            return mark(leaves, starts, masks, i, set, tie, keys, len, fresh, marks);
+        };
+        if MAX_CANDIDATES <= j {
+            return false;
+        }
+        if keys.len() <= len {
+            mark(leaves, starts, masks, i, set, tie, keys, len, fresh, marks);
+            fresh = false;
+            len = 0;
+        }
+        let wanted = is_source(first, origin, before, j, place.column);
+        len = push(
+            &mut before[BIT_WORDS..],
+            len,
+            wanted,
+            set,
+            place.column,
+            place.position,
+        );
+        j += 1;
+        found = row::advance(leaves, starts, masks, tie.word, place);
+    }
+}
+
+// Where the word `end` may stand beside the word before it, whose operand begins with the word `from`.
+fn window_at(ties: &[u8], distances: &[u16], from: usize, end: usize) -> Window
+    requires { ⌜ (from < end) × (end < length (now ties)) × (length (now ties) ≤ length (now distances)) ⌝ }
+    ensures { λ r. ⌜ (r ≡ windowOf (now (ties .entry)) (now (distances .entry)) from end) × Bounded r ⌝ }
+{
+    if ties[end] == CONTINUES {
+        return Window {
+            word: end - 1,
+            back: 1,
+            ahead: 0,
+        };
+    }
+    let n = distance(ties, distances, end);
+    let next = run_end(ties, end, CONTINUES);
+    Window {
+        word: end - 1,
+        back: 1 + n,
+        ahead: (next - from) as u64 + n,
+    }
+}
+
+// The first word of the operand that the word `end` belongs to; that of the word before is `from`.
+fn operand_start(ties: &[u8], from: usize, end: usize) -> usize
+    requires { ⌜ end < length (now ties) ⌝ }
+    ensures { λ r. ⌜ r ≡ startOf (now (ties .entry)) from end ⌝ }
+{
+    if CONTINUES < ties[end] {
+        return end;
+    }
+    from
+}
+
+// Whether the words of a chain from the word `end` on can be reached. The chain so far can end at the marked candidates of the
+// word before, or at all of its columns if that is the first; its operand begins with the word `from`.
 fn links(
     ties: &[u8],
     distances: &[u16],
     columns: &[u16],
     from: usize,
     end: usize,
+    first: bool,
     leaves: &[u8],
-    starts: &[u32],
+    starts: &[u16],
     masks: &[u16],
     before: &mut [u64],
     marks: &mut [u64],
 ) -> bool
-    requires { ⌜ (from ≤ end) × (length (now ties) ≤ length (now distances)) × (length (now ties) ≤ length (now columns)) ⌝ }
-    ensures { λ r. ⌜ Continues (now (ties .entry)) (now (distances .entry)) (now (columns .entry)) from end (now (leaves .entry)) (now (starts .entry)) (now (masks .entry)) (now (before .entry)) (now (marks .entry)) r ⌝ }
+    requires { ⌜ (from < end) × (end ≤ length (now ties)) × (length (now ties) ≤ length (now distances)) × (length (now ties) ≤ length (now columns)) × (bitWords < length (now before)) × (bitWords < length (now marks)) ⌝ }
+    ensures { λ r. ⌜ Continues (now (ties .entry)) (now (distances .entry)) (now (columns .entry)) from end first (now (leaves .entry)) (now (starts .entry)) (now (masks .entry)) (now (before .entry)) (now (marks .entry)) r ⌝ }
 {
     if ties.len() <= end {
         return true;
     }
-    if ties[end] < NEAR_BARE {
+    if ties[end] < CONTINUES {
         return true;
     }
-    let next = run_end(ties, end, CONTINUES);
-    if !reach_next(
-        ties,
-        distances,
-        columns,
-        from,
-        end,
-        next,
+    let tie = window_at(ties, distances, from, end);
+    if !step(
         leaves,
         starts,
         masks,
+        end,
+        columns[end],
+        tie,
+        first,
+        columns[from],
         before,
         marks,
     ) {
         return false;
     }
+    let start = operand_start(ties, from, end);
     links(
         ties,
         distances,
         columns,
-        end,
-        next,
+        start,
+        end + 1,
+        false,
         leaves,
         starts,
         masks,
@@ -377,34 +458,25 @@ fn links(
     )
 }
 
-// Whether a chain that begins with the word `from` holds: its first operand, and the links behind it.
-fn operands(
+// Whether a chain of several words that begins with the word `from` holds.
+fn several(
     ties: &[u8],
     distances: &[u16],
     columns: &[u16],
     from: usize,
     leaves: &[u8],
-    starts: &[u32],
+    starts: &[u16],
     masks: &[u16],
     marks: &mut [u64],
     spare: &mut [u64],
 ) -> bool
-    requires { ⌜ (from < length (now ties)) × (length (now ties) ≤ length (now distances)) × (length (now ties) ≤ length (now columns)) ⌝ }
+    requires { ⌜ (from < length (now ties)) × (length (now ties) ≤ length (now distances)) × (length (now ties) ≤ length (now columns)) × (from + 1 < chainEnd (now ties) from) ⌝ }
     ensures { λ r. ⌜ Decides (now (ties .entry)) (now (distances .entry)) (now (columns .entry)) from (now (leaves .entry)) (now (starts .entry)) (now (masks .entry)) (now (marks .entry)) (now (spare .entry)) r ⌝ }
 {
-    let end = run_end(ties, from, CONTINUES);
-    let operand = Operand {
-        from,
-        end,
-        columns: columns[from],
-    };
-    let previous = Previous {
-        none: true,
-        word: from,
-        back: 0,
-        ahead: 0,
-    };
-    if !reach(leaves, starts, masks, operand, previous, spare, marks) {
+    if marks.len() < MARK_WORDS {
+        return false;
+    }
+    if spare.len() < MARK_WORDS {
         return false;
     }
     links(
@@ -412,7 +484,8 @@ fn operands(
         distances,
         columns,
         from,
-        end,
+        from + 1,
+        true,
         leaves,
         starts,
         masks,
@@ -430,7 +503,7 @@ pub fn holds(
     columns: &[u16],
     from: usize,
     leaves: &[u8],
-    starts: &[u32],
+    starts: &[u16],
     masks: &[u16],
     marks: &mut [u64],
     spare: &mut [u64],
@@ -449,7 +522,7 @@ pub fn holds(
     if chain_end(ties, from) == from + 1 {
         return stands_in(leaves, starts, masks, from, columns[from]);
     }
-    operands(
+    several(
         ties,
         distances,
         columns,

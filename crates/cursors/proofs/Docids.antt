@@ -1,13 +1,12 @@
 -- The least docid: one docid at a time, and what it says of the groups (`next-is`).
-use Prim.Native.Nat.{ℕ, suc, _+_, _≤_, _<_, min}
+use Prim.Native.Nat.{ℕ, _+_, _≤_, _<_, min}
 use native.Mathlib.Omega.{arith}
 use native.Mathlib.Numerals.{add-one}
 use mathlib.Core.Path.{_≡_, refl, sym, ap, _∙_, subst}
 use mathlib.Core.List.{List, [], _∷_, _++_, map, List·Memᴰ, List·Memᴰ·head, List·Memᴰ·tail, List·Memᴰ·not-nil, List·Memᴰ·cases-cons, List·Memᴰ·append-cases}
 use mathlib.Core.Logic.{⊎-elim}
-use lib.ListN.{length, getD, take, set, length-set, length-map, List·getD-map}
-use lib.Seq.{take-suc, ext-getD, length-take-le, getD-take, getD-set-same, take-set-le}
-use lib.Dec.{eqb}
+use lib.ListN.{length, getD, take, length-map, List·getD-map}
+use lib.Seq.{take-suc, ext-getD, length-take-le, getD-take}
 use borrow.Author.Tests.{eq-eqb, ne-eqb}
 use Rattle.common.proofs.Cases.{split, same-or}
 use Rattle.doclist.specs.Doclist.{Entry, docidLimit}
@@ -19,21 +18,22 @@ use Rattle.cursors.proofs.Each.{Each, Ordered, hold-ordered, each-every
 
 -- ---- one more docid
 
-least-append : (ds : List ℕ) (d : ℕ) → leastOf (ds ++ (d ∷ [])) ≡ min (leastOf ds) d
-least-append [] d = omega arith
-least-append (x ∷ ds) d = let h = least-append ds d in omega arith
+least-most : (ds : List ℕ) → leastOf ds ≤ finished
+least-most [] = omega arith
+least-most (d ∷ ds) = let h = least-most ds in omega arith
+
+pub least-append : (ds es : List ℕ) → leastOf (ds ++ es) ≡ min (leastOf ds) (leastOf es)
+least-append [] es = let h = least-most es in omega arith
+least-append (d ∷ ds) es = let h = least-append ds es in omega arith
+
+least-one : (ds : List ℕ) (d : ℕ) → leastOf (ds ++ (d ∷ [])) ≡ min (leastOf ds) d
+least-one ds d = let h = least-append ds (d ∷ []) in let m = least-most ds in omega arith
 
 pub least-more : (ds : List ℕ) (i least : ℕ) → i < length ds → least ≡ leastOf (take i ds) → min least (getD ds i 0) ≡ leastOf (take (i + 1) ds)
 least-more ds i least h e =
     ap (λ (m : ℕ). min m (getD ds i 0)) e
-    ∙ sym (least-append (take i ds) (getD ds i 0))
+    ∙ sym (least-one (take i ds) (getD ds i 0))
     ∙ ap leastOf (sym (take-suc ds i 0 h) ∙ ap (λ (k : ℕ). take k ds) (sym (add-one i)))
-
--- the same where the next docid was just written
-pub least-set : (ds : List ℕ) (i least d : ℕ) → i < length ds → least ≡ leastOf (take i ds) → min least d ≡ leastOf (take (i + 1) (set ds i d))
-least-set ds i least d h e =
-    ap (min least) (sym (getD-set-same ds i d 0 h))
-    ∙ least-more (set ds i d) i least (rw length-set h) (e ∙ ap leastOf (sym (take-set-le i ds i d (omega arith))))
 
 -- ---- the docids of the cursors
 
@@ -64,10 +64,6 @@ docids-are {leaves} {docids} {bodies} {lasts} {n = n} cs h =
 
 abbrev least : List Cursor → ℕ
 least cs = leastOf (map headOf cs)
-
-least-most : (ds : List ℕ) → leastOf ds ≤ finished
-least-most [] = omega arith
-least-most (d ∷ ds) = let h = least-most ds in omega arith
 
 -- no list begins before it
 begins-from : (m : ℕ) (l : List Entry) → m ≤ headDocid l → BeginsFrom m l

@@ -4,4 +4,6 @@ pub mod Each
 pub mod Docids
 pub mod Rows
 pub mod Moving
+pub mod Blocks
+pub mod Scanning
 pub mod Passing

@@ -1,18 +1,18 @@
 -- Moving on, on content. A row taken leaves every later row as it is (`hits-moved`); no list begins at or before its docid
 -- any more (`from-moved`); below the docids with which the lists begin there is no row (`hits-none`). So a search that goes
 -- from the least docid to the next meets every row once, in rising order.
-use Prim.Native.Nat.{ℕ, suc, _+_, _<_}
+use Prim.Native.Nat.{ℕ, suc, _<_}
 use native.Mathlib.Omega.{arith}
 use mathlib.Core.Path.{_≡_, refl, sym, ap, ap₂, _∙_, subst}
 use mathlib.Core.List.{List, [], _∷_, _++_, map}
-use lib.Dec.{eqb}
 use borrow.Author.Tests.{eq-eqb, ne-eqb}
 use Rattle.common.proofs.Cases.{same-or}
 use Rattle.doclist.specs.Doclist.{Entry, Entries}
-use Rattle.meaning.specs.Index.{Decided, nothing, entry, entryFor, orElse}
+use Rattle.meaning.specs.Index.{Decided, nothing, entryFor, orElse}
 use Rattle.row.specs.Row.{Hit}
 use Rattle.cursors.specs.Groups.{Group, firstFor, hitOf, hitsAt, without, allWithout, moved, EveryList, Every, BeginsFrom, From}
 use Rattle.cursors.specs.Arrays.{Cursor, groupCursors, cursors}
+use Rattle.cursors.specs.Scanning.{movedCursor}
 use Rattle.cursors.proofs.Each.{Ordered}
 use Rattle.cursors.proofs.Rows.{none-before}
 
@@ -45,7 +45,7 @@ list-moved d (e ∷ es) o b =
     next [] h q = tt
     next (x ∷ xs) h q = omega (arith, h .0)
 
-no-entry : (d f : ℕ) (l : List Entry) → Ordered l → BeginsFrom d l → f < d → entryFor f l ≡ nothing
+pub no-entry : (d f : ℕ) (l : List Entry) → Ordered l → BeginsFrom d l → f < d → entryFor f l ≡ nothing
 no-entry d f [] o b h = refl
 no-entry d f (e ∷ es) o b h =
     rw (ne-eqb (e .docid) f (λ (q : e .docid ≡ f). omega arith)) (none-before f (suc (e .docid)) es (o .3) (omega arith))
@@ -91,9 +91,6 @@ hits-end f (g ∷ gs) e =
     none (l ∷ ls) q = ap (λ (x : List Entry). orElse (entryFor f x) (firstFor f ls)) (q .0) ∙ none ls (q .1)
 
 -- ---- the cursors
-
-abbrev pub movedCursor : ℕ → Cursor → Cursor
-movedCursor d c = record { mask = c .mask; follows = c .follows; left = without d (c .left) }
 
 lists-cursors : (d mask follows : ℕ) (ls : List (List Entry)) (cs : List Cursor)
     → groupCursors mask follows (allWithout d ls) ++ map (movedCursor d) cs ≡ map (movedCursor d) (groupCursors mask follows ls ++ cs)

@@ -1,27 +1,21 @@
 -- The row at a docid, cursor by cursor (`row-is`): where no list begins before the docid, the entries for it are the first
 -- ones of their lists; a cursor whose list begins with the docid gives a hit, unless an earlier one of its group did.
-use Prim.Native.Nat.{ℕ, suc, _+_, _<_}
+use Prim.Native.Nat.{ℕ, suc, _<_}
 use native.Mathlib.Omega.{arith}
 use mathlib.Core.Path.{_≡_, refl, sym, ap, ap₂, _∙_}
 use mathlib.Core.Bool.{Bool, true, false}
 use mathlib.Core.List.{List, [], _∷_, _++_}
-use lib.Dec.{ltb, eqb}
 use borrow.Author.Tests.{eq-eqb, ne-eqb}
-use Rattle.common.specs.Pick.{pick, both}
 use Rattle.common.proofs.Cases.{same-or}
 use Rattle.doclist.specs.Doclist.{Entry, Entries}
 use Rattle.meaning.specs.Index.{Decided, nothing, entry, entryFor, orElse}
 use Rattle.row.specs.Row.{Hit}
 use Rattle.cursors.specs.Groups.{Group, firstFor, hitOf, hitsAt, EveryList, Every, BeginsFrom, From}
 use Rattle.cursors.specs.Arrays.{Cursor, groupCursors, cursors}
+use Rattle.cursors.specs.Scanning.{headFor, shown, hides, hiddenBy, rowFrom}
 use Rattle.cursors.proofs.Each.{Ordered}
 
 -- ---- the entry for a docid
-
--- the first entry, where it is for the docid
-abbrev pub headFor : ℕ → List Entry → Decided
-headFor d [] = nothing
-headFor d (e ∷ es) = pick (eqb (e .docid) d) (entry e) nothing
 
 -- a docid below all entries has none
 pub none-before : (d low : ℕ) (es : List Entry) → Entries low 16 es → d < low → entryFor d es ≡ nothing
@@ -35,27 +29,6 @@ head-for d (e ∷ es) o b =
     same-or (e .docid) d
     (λ q. simp (eq-eqb (e .docid) d q))
     (λ q. rw (ne-eqb (e .docid) d q) (none-before d (suc (e .docid)) es (o .3) (omega arith)))
-
--- ---- cursor by cursor
-
--- what a cursor adds to the row, where it is hidden or not
-abbrev pub shown : Bool → ℕ → Decided → List Hit
-shown hidden mask nothing = []
-shown hidden mask (entry e) = pick hidden [] (record { mask = mask; columns = e .columns } ∷ [])
-
--- whether the next cursor of the group is hidden
-abbrev pub hides : Bool → Decided → Bool
-hides hidden nothing = hidden
-hides hidden (entry e) = true
-
-abbrev pub hiddenBy : Bool → ℕ → Bool
-hiddenBy hidden follows = both hidden (ltb 0 follows)
-
-abbrev pub rowFrom : ℕ → Bool → List Cursor → List Hit
-rowFrom d hidden [] = []
-rowFrom d hidden (c ∷ cs) =
-    shown (hiddenBy hidden (c .follows)) (c .mask) (headFor d (c .left))
-    ++ rowFrom d (hides (hiddenBy hidden (c .follows)) (headFor d (c .left))) cs
 
 -- ---- group by group
 

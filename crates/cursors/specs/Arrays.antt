@@ -6,16 +6,18 @@
 --     lasts     place of the list's last byte
 --     masks     bit i: the query's word number i matches the index word
 --     follows   0 for the first cursor of a group, 1 for the others
-use Prim.Native.Nat.{ℕ, suc, _+_, _-_, _≤_, _<_, min}
+--
+-- The cursors stand in blocks: `mins` has the least docid of each block, so that a search need not look at every cursor.
+use Prim.Native.Nat.{ℕ, suc, _+_, _*_, _≤_, _<_, min}
 use mathlib.Core.Path.{_≡_}
 use mathlib.Core.Bool.{Bool}
-use mathlib.Core.List.{List, [], _∷_, _++_}
-use lib.ListN.{length, getD, drop}
+use mathlib.Core.List.{List, [], _∷_, _++_, List·Memᴰ}
+use lib.ListN.{length, getD, take, drop}
 use lib.Dec.{ltb, eqb}
 use Rattle.common.specs.Pick.{pick}
 use Rattle.doclist.specs.Doclist.{Entry, Columns, Entries, docidLimit, encodeFrom}
-use Rattle.row.specs.Row.{bodyBytes, RowIs}
-use Rattle.cursors.specs.Groups.{Group, hitsAt, moved, NextIs}
+use Rattle.row.specs.Row.{Hit, bodyBytes, RowIs}
+use Rattle.cursors.specs.Groups.{Group, hitsAt, moved, From, NextIs}
 use Rattle.cursors.specs.declared.Next.{Next}
 use Rattle.cursors.specs.declared.Next.the-variants.{Docid, End}
 use Rattle.cursors.specs.declared.Taken.{Taken}
@@ -102,10 +104,41 @@ leastOf (d ∷ ds) = min d (leastOf ds)
 abbrev pub nextOf : ℕ → Next
 nextOf docid = pick (eqb docid finished) End (Docid docid)
 
+-- ---- blocks of cursors
+
+-- the cursors stand in blocks of so many
+abbrev pub blockSize : ℕ
+blockSize = 16
+
+-- the docids of block number b
+abbrev pub blockOf : List ℕ → ℕ → ℕ → List ℕ
+blockOf docids n b = take blockSize (drop (blockSize * b) (take n docids))
+
+-- the least docid of each block
+pub record MinimaAre (docids : List ℕ) (n : ℕ) (mins : List ℕ) : Type 0 where
+  pub room : n ≤ blockSize * length mins
+  pub each : (b : ℕ) → blockSize * b < n → getD mins b 0 ≡ leastOf (blockOf docids n b)
+
 -- ---- what taking the row at a docid does
 
-pub record RowTaken (leaves docids bodies lasts masks follows : List ℕ) (n : ℕ) (starts matched : List ℕ) (docid : ℕ) (groups : List Group) (r : Taken) : Type 0 where
+pub record RowTaken (leaves docids bodies lasts masks follows : List ℕ) (n : ℕ) (mins starts matched : List ℕ) (docid : ℕ) (groups : List Group) (r : Taken) : Type 0 where
   pub count : r .hits ≡ length (hitsAt docid groups)
   pub row : RowIs leaves starts matched (hitsAt docid groups)
   pub cursors-are : CursorsAre leaves docids bodies lasts masks follows n (moved docid groups)
+  pub minima : MinimaAre docids n mins
   pub next-is : NextIs (moved docid groups) (r .next)
+  -- where just one cursor stood on the docid, every other one stands at `rest` or behind it
+  pub lone : r .taken ≡ 1 → (r .last < n) × ((k : ℕ) → k < n → (k ≡ r .last → ⊥) → r .rest ≤ getD docids k 0)
+
+-- ---- what passing over the entries before a docid does
+
+-- the cursor `i`, the only one that stands before `rest`, has moved there: the rows from there on are as they were, and those
+-- before had hits of this cursor's word only
+pub record Passed (leaves docids bodies lasts masks follows : List ℕ) (n : ℕ) (mins : List ℕ) (i rest : ℕ) (groups : List Group) (r : Next) : Type 0 where
+  pub left : List Group
+  pub cursors-are : CursorsAre leaves docids bodies lasts masks follows n left
+  pub minima : MinimaAre docids n mins
+  pub next-is : NextIs left r
+  pub reached : From rest left
+  pub later : (d : ℕ) → rest ≤ d → hitsAt d left ≡ hitsAt d groups
+  pub earlier : (d : ℕ) → d < rest → (h : Hit) → List·Memᴰ h (hitsAt d groups) → h .mask ≡ getD masks i 0

@@ -5,7 +5,7 @@
 use Prim.Native.Nat.{ℕ, _≤_, _<_}
 use mathlib.Core.Path.{_≡_}
 use mathlib.Core.List.{List, [], _∷_, _++_, List·Memᴰ}
-use lib.Dec.{eqb}
+use lib.Dec.{ltb, eqb}
 use Rattle.common.specs.Pick.{pick}
 use Rattle.doclist.specs.Doclist.{Entry, docidLimit}
 use Rattle.meaning.specs.Index.{Decided, nothing, entry, entryFor, orElse}
@@ -48,6 +48,11 @@ allWithout docid (l ∷ ls) = without docid l ∷ allWithout docid ls
 abbrev pub moved : ℕ → List Group → List Group
 moved docid [] = []
 moved docid (g ∷ gs) = record { mask = g .mask; lists = allWithout docid (g .lists) } ∷ moved docid gs
+
+-- a list loses its first entries that are before the docid
+abbrev pub withoutBefore : ℕ → List Entry → List Entry
+withoutBefore docid [] = []
+withoutBefore docid (e ∷ es) = pick (ltb (e .docid) docid) (withoutBefore docid es) (e ∷ es)
 
 -- ---- the next docid
 

@@ -1,5 +1,6 @@
 // Cursors over posting lists: one for each list of an index word that the query asks for. A search goes from the least
-// docid to the next; at each, the entries on it make a row, and their cursors move on. An entry's body is what stands
+// docid to the next; at each, the entries on it make a row, and their cursors move on. The cursors stand in blocks, and the
+// least docid of each block is kept, so that a block without the docid is passed over. An entry's body is what stands
 // behind its docid number; all numbers are varints, and in a body only the closing one has a byte 0:
 //
 //     docid (later its difference)   body: for each column [1, column] position + 2, ..   0
@@ -8,14 +9,16 @@ ghost use mathlib.Core.Path.{_≡_};
 ghost use mathlib.Core.Logic.{_↔_};
 ghost use mathlib.Core.Bool.{true, false};
 ghost use mathlib.Core.List.{List};
-ghost use Prim.Native.Nat.{ℕ, _+_, _^_, _≤_, _<_, min};
-ghost use lib.ListN.{length, take};
+ghost use Prim.Native.Nat.{ℕ, _+_, _*_, _/_, _^_, _≤_, _<_, min};
+ghost use lib.ListN.{length, getD, take};
 ghost use lib.Dec.{ltb};
 ghost use Rattle.common.specs.Pick.{pick, both};
 ghost use Rattle.common.specs.Bytes.{span};
 ghost use Rattle.doclist.specs.Doclist.{Entry, docidLimit};
-ghost use Rattle.cursors.specs.Groups.{Group, From, NextIs};
-ghost use Rattle.cursors.specs.Arrays.{isOpen, StandsOn, ListAt, CursorsAre, leastOf, nextOf, RowTaken, maxLeaves};
+ghost use Rattle.cursors.specs.Groups.{Group, withoutBefore, From, NextIs};
+ghost use Rattle.cursors.specs.Arrays.{finished, isOpen, StandsOn, ListAt, CursorsAre, leastOf, nextOf, blockSize, MinimaAre, RowTaken, Passed, maxLeaves};
+ghost use Rattle.cursors.specs.Scanning.{begun, joined, overOther, overHit, takenOf, Fits, BlockTaken, Scanned};
+ghost use Rattle.cursors.specs.declared.Scan.{Scan};
 
 // Stands for no docid. Docids are below 2^63.
 const FINISHED: u64 = 0xffff_ffff_ffff_ffff;
@@ -26,16 +29,35 @@ const DOCID_LIMIT: u64 = 0x8000_0000_0000_0000;
 // All leaves together have at most 65,536 bytes, so this is the last place in them.
 const LAST_PLACE: usize = 65535;
 
+// The cursors stand in blocks of so many.
+const BLOCK: usize = 16;
+
 // The docid to go on with.
 pub enum Next {
     Docid(u64),
     End,
 }
 
-// What taking a row gives: how many hits it has, and where to go on.
+// What taking a row gives: how many hits it has; how many cursors stood on its docid, hidden ones too, and the last of them;
+// the least docid of the others, FINISHED if there are none; where to go on.
 pub struct Taken {
     pub hits: usize,
+    pub taken: usize,
+    pub last: usize,
+    pub rest: u64,
     pub next: Next,
+}
+
+// A scan for the row at a docid, as far as it has come: how many hits there are; whether the last cursor hides the next of
+// its group; how many cursors stood on the docid, and the last of them; the least docid of the others, and of those where
+// they moved to.
+struct Scan {
+    hits: usize,
+    hidden: bool,
+    taken: usize,
+    last: usize,
+    rest: u64,
+    moved: u64,
 }
 
 // Where a cursor stands.
@@ -60,7 +82,8 @@ fn open_bytes(s: &[u8]) -> usize
 
 // Where the cursor stands after the entry whose body is at `body`, in a list whose last byte is at `last`.
 fn entry_after(leaves: &[u8], docid: u64, body: u16, last: u16) -> Place
-    ensures { λ r. ⌜ ((e : Entry) (rest : List Entry) → length (now (leaves .entry)) ≤ maxLeaves → StandsOn (now (leaves .entry)) e rest docid body last → ListAt (now (leaves .entry)) rest (r .docid) (r .body) last) ⌝ }
+    ensures content { λ r. ⌜ ((e : Entry) (rest : List Entry) → length (now (leaves .entry)) ≤ maxLeaves → StandsOn (now (leaves .entry)) e rest docid body last → ListAt (now (leaves .entry)) rest (r .docid) (r .body) last) ⌝ }
+    ensures onward { λ r. ⌜ (docid < finished → docid + body < r .docid + r .body) ⌝ }
 {
     let from = body as usize;
     let to = last as usize;
@@ -157,29 +180,205 @@ fn hits_after(hits: usize, hidden: bool) -> usize
     hits + 1
 }
 
-// Whether seven arrays have at least `n` elements each.
-fn has_room(n: usize, a: usize, b: usize, c: usize, d: usize, e: usize, f: usize, g: usize) -> bool
-    ensures { λ r. ⌜ ((r ≡ true) ↔ ((n ≤ a) × (n ≤ b) × (n ≤ c) × (n ≤ d) × (n ≤ e) × (n ≤ f) × (n ≤ g))) ⌝ }
+// Over one more cursor, or a block, that does not stand on the docid.
+fn over_other(scan: Scan, hidden: bool, docid: u64) -> Scan
+    ensures { λ r. ⌜ r ≡ overOther scan hidden docid ⌝ }
 {
-    if a < n {
+    Scan {
+        hits: scan.hits,
+        hidden,
+        taken: scan.taken,
+        last: scan.last,
+        rest: lesser(scan.rest, docid),
+        moved: scan.moved,
+    }
+}
+
+// Over the cursor `i`, which stood on the docid and moved to another.
+fn over_hit(scan: Scan, covered: bool, i: usize, docid: u64) -> Scan
+    requires { ⌜ (scan .hits < 2 ^ 63) × (scan .taken < 2 ^ 63) ⌝ }
+    ensures { λ r. ⌜ r ≡ overHit scan covered i docid ⌝ }
+{
+    Scan {
+        hits: hits_after(scan.hits, covered),
+        hidden: true,
+        taken: scan.taken + 1,
+        last: i,
+        rest: scan.rest,
+        moved: lesser(scan.moved, docid),
+    }
+}
+
+// The scan where a block begins: its docids are met anew.
+fn begin_block(scan: Scan) -> Scan
+    ensures { λ r. ⌜ r ≡ begun scan ⌝ }
+{
+    Scan {
+        hits: scan.hits,
+        hidden: scan.hidden,
+        taken: scan.taken,
+        last: scan.last,
+        rest: FINISHED,
+        moved: FINISHED,
+    }
+}
+
+// The scan before a block and the one over it.
+fn join(scan: Scan, block: Scan) -> Scan
+    ensures { λ r. ⌜ r ≡ joined scan block ⌝ }
+{
+    Scan {
+        hits: block.hits,
+        hidden: block.hidden,
+        taken: block.taken,
+        last: block.last,
+        rest: lesser(scan.rest, block.rest),
+        moved: lesser(scan.moved, block.moved),
+    }
+}
+
+// What the whole scan gives.
+fn end_scan(scan: Scan, next: Next) -> Taken
+    ensures { λ r. ⌜ r ≡ takenOf scan next ⌝ }
+{
+    Taken {
+        hits: scan.hits,
+        taken: scan.taken,
+        last: scan.last,
+        rest: scan.rest,
+        next,
+    }
+}
+
+// Takes what the cursors from `from` up to `to` give to the row at a docid; those on it move on.
+fn take_block(
+    docid: u64,
+    leaves: &[u8],
+    docids: &mut [u64],
+    bodies: &mut [u16],
+    lasts: &[u16],
+    masks: &[u16],
+    follows: &[u8],
+    from: usize,
+    to: usize,
+    starts: &mut [u16],
+    matched: &mut [u16],
+    before: Scan,
+) -> Scan
+    requires { ⌜ Fits from to (now docids) (now bodies) (now lasts) (now masks) (now follows) (now starts) (now matched) × (before .hits ≤ from) × (before .taken ≤ from) ⌝ }
+    ensures block { λ r. ⌜ BlockTaken (now (docids .entry)) (now (docids .exit)) from to r ⌝ }
+    ensures row { λ r. ⌜ ((n : ℕ) (groups : List Group) (earlier : Scan) → to ≤ n → Scanned (now (leaves .entry)) (now (docids .entry)) (now (bodies .entry)) (now (lasts .entry)) (now (masks .entry)) (now (follows .entry)) n (now (starts .entry)) (now (matched .entry)) docid groups (joined earlier (begun before)) from → Scanned (now (leaves .entry)) (now (docids .exit)) (now (bodies .exit)) (now (lasts .entry)) (now (masks .entry)) (now (follows .entry)) n (now (starts .exit)) (now (matched .exit)) docid groups (joined earlier r) to) ⌝ }
+{
+    let mut scan = begin_block(before);
+    let mut i = from;
+    while i < to {
+        let at = docids[i];
+        let covered = is_hidden(scan.hidden, follows[i]);
+        if at != docid {
+            scan = over_other(scan, covered, at);
+            i += 1;
+            continue;
+        }
+        let hits = scan.hits;
+        starts[hits] = bodies[i];
+        matched[hits] = masks[i];
+        let place = entry_after(leaves, docid, bodies[i], lasts[i]);
+        docids[i] = place.docid;
+        bodies[i] = place.body;
+        scan = over_hit(scan, covered, i, place.docid);
+        i += 1;
+    }
+    scan
+}
+
+// Where the block ends that begins at `from`.
+fn block_end(from: usize, n: usize) -> usize
+    requires { ⌜ from ≤ n ⌝ }
+    ensures { λ r. ⌜ r ≡ min n (from + blockSize) ⌝ }
+{
+    if n - from < BLOCK {
+        return n;
+    }
+    from + BLOCK
+}
+
+// How many blocks `n` cursors are in.
+fn blocks_of(n: usize) -> usize
+    ensures { λ r. ⌜ r ≡ (n + 15) / blockSize ⌝ }
+{
+    let full = n / BLOCK;
+    if full * BLOCK < n {
+        return full + 1;
+    }
+    full
+}
+
+// The least docid of each block.
+pub fn minima(docids: &[u64], n: usize, mins: &mut [u64])
+    ensures { λ r. ⌜ (n ≤ length (now (docids .entry)) → n ≤ blockSize * length (now (mins .entry)) → MinimaAre (now (docids .entry)) n (now (mins .exit))) ⌝ }
+{
+    if docids.len() < n {
+        return;
+    }
+    if mins.len() < blocks_of(n) {
+        return;
+    }
+    let mut from: usize = 0;
+    let mut b: usize = 0;
+    while from < n {
+        let to = block_end(from, n);
+        mins[b] = least_of(&docids[from..to]);
+        from = to;
+        b += 1;
+    }
+}
+
+// Whether the arrays of cursors that move have room for `n`.
+fn can_move(n: usize, docids: usize, bodies: usize, lasts: usize, mins: usize) -> bool
+    ensures { λ r. ⌜ ((r ≡ true) ↔ ((n ≤ docids) × (n ≤ bodies) × (n ≤ lasts) × (n ≤ blockSize * mins))) ⌝ }
+{
+    if docids < n {
         return false;
     }
-    if b < n {
+    if bodies < n {
         return false;
     }
-    if c < n {
+    if lasts < n {
         return false;
     }
-    if d < n {
+    if mins < blocks_of(n) {
         return false;
     }
-    if e < n {
+    true
+}
+
+// Whether the other arrays that a row is taken with have room for `n` cursors.
+fn has_room(n: usize, masks: usize, follows: usize, starts: usize, matched: usize) -> bool
+    ensures { λ r. ⌜ ((r ≡ true) ↔ ((n ≤ masks) × (n ≤ follows) × (n ≤ starts) × (n ≤ matched))) ⌝ }
+{
+    if masks < n {
         return false;
     }
-    if f < n {
+    if follows < n {
         return false;
     }
-    if g < n {
+    if starts < n {
+        return false;
+    }
+    if matched < n {
+        return false;
+    }
+    true
+}
+
+// Whether a block with this least docid gives nothing to the row at `docid` and hides nothing in it.
+fn gives_nothing(hidden: bool, least: u64, docid: u64) -> bool
+    ensures { λ r. ⌜ ((r ≡ true) → ((hidden ≡ false) × (least ≡ docid → ⊥))) ⌝ }
+{
+    if hidden {
+        return false;
+    }
+    if least == docid {
         return false;
     }
     true
@@ -196,51 +395,122 @@ pub fn advance(
     masks: &[u16],
     follows: &[u8],
     n: usize,
-    starts: &mut [u32],
+    mins: &mut [u64],
+    starts: &mut [u16],
     matched: &mut [u16],
 ) -> Taken
-    ensures { λ r. ⌜ ((groups : List Group) → CursorsAre (now (leaves .entry)) (now (docids .entry)) (now (bodies .entry)) (now (lasts .entry)) (now (masks .entry)) (now (follows .entry)) n groups → docid < docidLimit → From docid groups → n ≤ length (now (starts .entry)) → n ≤ length (now (matched .entry)) → RowTaken (now (leaves .entry)) (now (docids .exit)) (now (bodies .exit)) (now (lasts .entry)) (now (masks .entry)) (now (follows .entry)) n (now (starts .exit)) (now (matched .exit)) docid groups r) ⌝ }
+    ensures { λ r. ⌜ ((groups : List Group) → CursorsAre (now (leaves .entry)) (now (docids .entry)) (now (bodies .entry)) (now (lasts .entry)) (now (masks .entry)) (now (follows .entry)) n groups → MinimaAre (now (docids .entry)) n (now (mins .entry)) → docid < docidLimit → From docid groups → n ≤ length (now (starts .entry)) → n ≤ length (now (matched .entry)) → RowTaken (now (leaves .entry)) (now (docids .exit)) (now (bodies .exit)) (now (lasts .entry)) (now (masks .entry)) (now (follows .entry)) n (now (mins .exit)) (now (starts .exit)) (now (matched .exit)) docid groups r) ⌝ }
 {
-    let mut least = FINISHED;
-    let mut hits: usize = 0;
-    if !has_room(
-        n,
-        docids.len(),
-        bodies.len(),
-        lasts.len(),
-        masks.len(),
-        follows.len(),
-        starts.len(),
-        matched.len(),
-    ) {
-        return Taken {
-            hits,
-            next: Next::End,
-        };
+    let mut scan = Scan {
+        hits: 0,
+        hidden: false,
+        taken: 0,
+        last: 0,
+        rest: FINISHED,
+        moved: FINISHED,
+    };
+    if !can_move(n, docids.len(), bodies.len(), lasts.len(), mins.len()) {
+        return end_scan(scan, Next::End);
     }
-    let mut hidden = false;
-    let mut i: usize = 0;
-    while i < n {
-        let at = docids[i];
-        let covered = is_hidden(hidden, follows[i]);
-        if at != docid {
-            hidden = covered;
-            least = lesser(least, at);
-            i += 1;
+    if !has_room(n, masks.len(), follows.len(), starts.len(), matched.len()) {
+        return end_scan(scan, Next::End);
+    }
+    let mut from: usize = 0;
+    let mut b: usize = 0;
+    while from < n {
+        let to = block_end(from, n);
+        let least = mins[b];
+        if gives_nothing(scan.hidden, least, docid) {
+            scan = over_other(scan, false, least);
+            from = to;
+            b += 1;
             continue;
         }
-        starts[hits] = bodies[i] as u32;
-        matched[hits] = masks[i];
-        hits = hits_after(hits, covered);
-        hidden = true;
-        let place = entry_after(leaves, docid, bodies[i], lasts[i]);
-        docids[i] = place.docid;
-        bodies[i] = place.body;
-        least = lesser(least, place.docid);
+        let block = take_block(
+            docid,
+            leaves,
+            docids,
+            bodies,
+            lasts,
+            masks,
+            follows,
+            from,
+            to,
+            starts,
+            matched,
+            scan,
+        );
+        mins[b] = lesser(block.rest, block.moved);
+        scan = join(scan, block);
+        from = to;
+        b += 1;
+    }
+    end_scan(scan, next_of(lesser(scan.rest, scan.moved)))
+}
+
+// Where the cursor stands after all entries before `rest`.
+fn place_from(leaves: &[u8], docid: u64, body: u16, last: u16, rest: u64) -> Place
+    ensures content { λ r. ⌜ ((left : List Entry) → length (now (leaves .entry)) ≤ maxLeaves → ListAt (now (leaves .entry)) left docid body last → ListAt (now (leaves .entry)) (withoutBefore rest left) (r .docid) (r .body) last) ⌝ }
+    ensures reached { λ r. ⌜ rest ≤ r .docid ⌝ }
+{
+    let mut place = Place { docid, body };
+    while place.docid < rest {
+        place = entry_after(leaves, place.docid, place.body, last);
+    }
+    place
+}
+
+// Whether a docid is among some.
+fn has_docid(docids: &[u64], docid: u64) -> bool
+    ensures { λ r. ⌜ (r ≡ true → leastOf (now (docids .entry)) ≤ docid) ⌝ }
+{
+    let mut i: usize = 0;
+    while i < docids.len() {
+        if docids[i] == docid {
+            return true;
+        }
         i += 1;
     }
-    Taken {
-        hits,
-        next: next_of(least),
+    false
+}
+
+// The least docid of all blocks, none of which is before `rest`. Mostly it is `rest`, which is found sooner.
+fn least_block(mins: &[u64], n: usize, rest: u64) -> Next
+    requires { ⌜ n ≤ blockSize * length (now mins) ⌝ }
+    ensures { λ r. ⌜ ((docids : List ℕ) → n ≤ length docids → MinimaAre docids n (now (mins .entry)) → rest ≤ leastOf (take n docids) → r ≡ nextOf (leastOf (take n docids))) ⌝ }
+{
+    let end = blocks_of(n);
+    if has_docid(&mins[0..end], rest) {
+        return next_of(rest);
     }
+    next_of(least_of(&mins[0..end]))
+}
+
+// Moves the cursor `i`, the only one that stands before `rest`, past all entries before it.
+pub fn pass(
+    i: usize,
+    rest: u64,
+    leaves: &[u8],
+    docids: &mut [u64],
+    bodies: &mut [u16],
+    lasts: &[u16],
+    n: usize,
+    mins: &mut [u64],
+) -> Next
+    ensures { λ r. ⌜ ((masks follows : List ℕ) (groups : List Group) → CursorsAre (now (leaves .entry)) (now (docids .entry)) (now (bodies .entry)) (now (lasts .entry)) masks follows n groups → MinimaAre (now (docids .entry)) n (now (mins .entry)) → i < n → rest ≤ finished → ((k : ℕ) → k < n → (k ≡ i → ⊥) → rest ≤ getD (now (docids .entry)) k 0) → Passed (now (leaves .entry)) (now (docids .exit)) (now (bodies .exit)) (now (lasts .entry)) masks follows n (now (mins .exit)) i rest groups r) ⌝ }
+{
+    if n <= i {
+        return Next::End;
+    }
+    if !can_move(n, docids.len(), bodies.len(), lasts.len(), mins.len()) {
+        return Next::End;
+    }
+    let place = place_from(leaves, docids[i], bodies[i], lasts[i], rest);
+    docids[i] = place.docid;
+    bodies[i] = place.body;
+    let b = i / BLOCK;
+    let from = b * BLOCK;
+    let to = block_end(from, n);
+    mins[b] = least_of(&docids[from..to]);
+    least_block(mins, n, rest)
 }

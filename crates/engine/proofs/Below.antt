@@ -70,5 +70,5 @@ module _ (P : ℕ → Type 0) where
       })
 
   -- all docids
-  pub lists-all : (ds : List ℕ) → ListsBelow P docidLimit ds → Lists P ds
-  lists-all ds l = record { rising = l .rising; exact = l .exact }
+  pub lists-all : (b : ℕ) (ds : List ℕ) → docidLimit ≤ b → Rising 0 docidLimit ds → ListsBelow P b ds → Lists P ds
+  lists-all b ds h r l = record { rising = r; exact = λ d k. l .exact d (omega arith) }

@@ -1,6 +1,10 @@
 pub mod General
 pub mod Rooms
 pub mod Below
+pub mod Lacking
+pub mod Evaluating
+pub mod Reaching
+pub mod Passing
 pub mod Judging
 pub mod Progress
 pub mod Going

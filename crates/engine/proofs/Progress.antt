@@ -1,15 +1,14 @@
 -- How the list grows from row to row. Between the docids of two rows there is no row, and where there is no row no word of
 -- the query stands, so nothing is satisfied there.
 use Prim.Native.Nat.{ℕ, zero, suc, _+_, _≤_, _<_}
-use native.Mathlib.Numerals.{add-one}
 use native.Mathlib.Omega.{arith}
 use mathlib.Core.Path.{_≡_, refl, sym, _∙_, subst}
 use mathlib.Core.Logic.{⊎-elim}
-use mathlib.Core.Bool.{Bool, true, false}
+use mathlib.Core.Bool.{true, false}
 use mathlib.Core.List.{List, [], _∷_, _++_, List·Memᴰ, List·Memᴰ·not-nil, List·Memᴰ·cases-cons, List·Memᴰ·append-cases}
 use lib.ListN.{length}
 use Rattle.common.proofs.Cases.{false-not-true}
-use Rattle.doclist.specs.Doclist.{Entry, docidLimit}
+use Rattle.doclist.specs.Doclist.{Rising, docidLimit}
 use Rattle.lexer.specs.Token.{QueryWord, Tie, begins, continues, Node, phraseNodes}
 use Rattle.query.specs.Tree.{Tree, leaf, joined, linkNodes, treeNodes}
 use Rattle.meaning.specs.Satisfies.{Live, StandsAt, Satisfies}
@@ -17,15 +16,15 @@ use Rattle.meaning.specs.Listing.{Lists}
 use Rattle.meaning.proofs.Some.{Worded, WordedTree, firstWords, holds-some}
 use Rattle.row.specs.Row.{bodiesSize}
 use Rattle.chain.specs.Chains.{wordAt, Agrees, maxCandidates}
-use Rattle.cursors.specs.Groups.{Group, hitsAt, moved, EveryList, Every, BeginsFrom, From, Begins, NextIs}
-use Rattle.cursors.specs.Arrays.{CursorsAre}
+use Rattle.cursors.specs.Groups.{Group, hitsAt, From, Begins, NextIs}
+use Rattle.cursors.specs.Arrays.{CursorsAre, MinimaAre}
 use Rattle.cursors.specs.declared.Next.{Next}
 use Rattle.cursors.specs.declared.Next.the-variants.{Docid, End}
 use Rattle.cursors.proofs.Each.{ordered}
-use Rattle.cursors.proofs.Moving.{hits-moved, from-moved, hits-none, hits-end}
+use Rattle.cursors.proofs.Moving.{hits-none, hits-end}
 use Rattle.evaluate.specs.Evaluate.{FilledTree}
-use Rattle.engine.specs.Rows.{RowTells}
-use Rattle.engine.proofs.Judging.{Judged}
+use Rattle.engine.specs.Rows.{RowTells, RowJudged}
+use Rattle.engine.specs.declared.Judged.{Judged}
 use Rattle.engine.proofs.Below.{ListsBelow, lists-none, lists-skip, lists-more, lists-all}
 
 -- ---- the first words of a tree's chains are among its words
@@ -88,68 +87,56 @@ no-row t live groups d w tells none h =
     let hit = tells .agrees (a .number) (a .inside) column position .1 stands in
     List·Memᴰ·not-nil (subst (λ hits. List·Memᴰ (hit .0) hits) none (hit .1))
 
--- ---- the next docid is not before any that was reached
-
-list-member : (P : List Entry → Type 0) (ls : List (List Entry)) (l : List Entry) → EveryList P ls → List·Memᴰ l ls → P l
-list-member P [] l h m = absurd (List·Memᴰ·not-nil m)
-list-member P (k ∷ ls) l h m = ⊎-elim (λ e. subst P (sym e) (h .0)) (λ n. list-member P ls l (h .1) n) (List·Memᴰ·cases-cons m)
-
-group-member : (P : List Entry → Type 0) (gs : List Group) (g : Group) → Every P gs → List·Memᴰ g gs → EveryList P (g .lists)
-group-member P [] g h m = absurd (List·Memᴰ·not-nil m)
-group-member P (k ∷ gs) g h m =
-    ⊎-elim (λ e. subst (λ x. EveryList P (x .lists)) (sym e) (h .0)) (λ n. group-member P gs g (h .1) n) (List·Memᴰ·cases-cons m)
-
-begins-from : (from d : ℕ) (gs : List Group) → From from gs → Begins d gs → from ≤ d
-begins-from from d gs f b =
-    let h = list-member (BeginsFrom from) (b .group .lists) (b .first ∷ b .others) (group-member (BeginsFrom from) gs (b .group) f (b .in-groups)) (b .in-lists) in
-    let e = b .same in
-    omega arith
-
-lists-from-zero : (ls : List (List Entry)) → EveryList (BeginsFrom 0) ls
-lists-from-zero [] = tt
-lists-from-zero ([] ∷ ls) = (tt, lists-from-zero ls)
-lists-from-zero ((e ∷ es) ∷ ls) = (omega arith, lists-from-zero ls)
-
-from-zero : (gs : List Group) → From 0 gs
-from-zero [] = tt
-from-zero (g ∷ gs) = (lists-from-zero (g .lists), from-zero gs)
-
 -- ---- on the way
 
--- the docids below `from` are listed, and the cursors stand at or behind it; from there on the rows are those at the start
-pub record Progress (leaves docids bodies lasts masks follows : List ℕ) (n : ℕ) (tree : Tree) (live : Live) (start : List Group) (next : Next) (from : ℕ) (listed : List ℕ) : Type 0 where
+-- the docids below `from` are listed, and the cursors stand behind it; from `since` on the rows are those at the start, and
+-- none between the two satisfies the query
+pub record Progress (leaves docids bodies lasts masks follows : List ℕ) (n : ℕ) (mins : List ℕ) (tree : Tree) (live : Live) (start : List Group) (next : Next) (from : ℕ) (listed : List ℕ) : Type 0 where
   pub groups : List Group
   pub cursors-are : CursorsAre leaves docids bodies lasts masks follows n groups
+  pub minima : MinimaAre docids n mins
   pub next-is : NextIs groups next
-  pub reached : From from groups
-  pub same : (d : ℕ) → from ≤ d → hitsAt d groups ≡ hitsAt d start
-  pub lists : ListsBelow (λ d. Satisfies live d tree) from listed
+  pub since : ℕ
+  pub ahead : from ≤ since
+  pub reached : (d : ℕ) → next ≡ Docid d → since ≤ d
+  pub same : (d : ℕ) → since ≤ d → hitsAt d groups ≡ hitsAt d start
+  pub lists : ListsBelow (λ d. Satisfies live d tree) since listed
 
 module _ {leaves lasts masks follows : List ℕ} {n : ℕ} {tree : Tree} {live : Live} {start : List Group} where
-  pub progress-start : {docids bodies : List ℕ} {next : Next} → CursorsAre leaves docids bodies lasts masks follows n start → NextIs start next
-      → Progress leaves docids bodies lasts masks follows n tree live start next 0 []
-  progress-start c e =
-      record { groups = start; cursors-are = c; next-is = e; reached = from-zero start; same = λ d h. refl; lists = lists-none (λ d. Satisfies live d tree) }
+  pub progress-start : {docids bodies mins : List ℕ} {next : Next} → CursorsAre leaves docids bodies lasts masks follows n start → MinimaAre docids n mins → NextIs start next
+      → Progress leaves docids bodies lasts masks follows n mins tree live start next 0 []
+  progress-start c m e =
+      record {
+        groups = start;
+        cursors-are = c;
+        minima = m;
+        next-is = e;
+        since = 0;
+        ahead = omega arith;
+        reached = λ d h. omega arith;
+        same = λ d h. refl;
+        lists = lists-none (λ d. Satisfies live d tree);
+      }
 
-  module _ (worded : FilledTree tree) (tells : (d : ℕ) → RowTells (treeNodes tree) live start d) where
+  module _ (worded : FilledTree tree) (tells : (d : ℕ) → RowTells (treeNodes tree) live start d) {docids bodies mins : List ℕ} {next : Next} {from : ℕ} {listed : List ℕ}
+      (p : Progress leaves docids bodies lasts masks follows n mins tree live start next from listed) where
     -- where no row is left, all docids are listed
-    pub progress-end : {docids bodies : List ℕ} {next : Next} {from : ℕ} {listed : List ℕ} → Progress leaves docids bodies lasts masks follows n tree live start next from listed
-        → next ≡ End → from ≤ docidLimit → Lists (λ d. Satisfies live d tree) listed
-    progress-end {from = from} {listed = listed} p e h =
-        let gs = p .groups in
-        let none = subst (NextIs gs) e (p .next-is) in
-        lists-all (λ d. Satisfies live d tree) listed
-        (lists-skip (λ d. Satisfies live d tree) from docidLimit listed h
-        (λ d k l s. no-row tree live start d worded (tells d) (sym (p .same d k) ∙ hits-end d gs none) s)
+    pub progress-end : next ≡ End → Rising 0 docidLimit listed → Lists (λ d. Satisfies live d tree) listed
+    progress-end e r =
+        let none = subst (NextIs (p .groups)) e (p .next-is) in
+        let b : ℕ = p .since + docidLimit in
+        lists-all (λ d. Satisfies live d tree) b listed (omega arith) r
+        (lists-skip (λ d. Satisfies live d tree) (p .since) b listed (omega arith)
+        (λ d k l s. no-row tree live start d worded (tells d) (sym (p .same d k) ∙ hits-end d (p .groups) none) s)
         (p .lists))
 
     -- the row at the next docid
-    module _ {docids bodies : List ℕ} {next : Next} {from : ℕ} {listed : List ℕ} (p : Progress leaves docids bodies lasts masks follows n tree live start next from listed) (d : ℕ) (e : next ≡ Docid d) where
+    module _ (d : ℕ) (e : next ≡ Docid d) where
       next-here : From d (p .groups) × Begins d (p .groups) × (d < docidLimit)
       next-here = subst (NextIs (p .groups)) e (p .next-is)
 
       pub next-later : from ≤ d
-      next-later = begins-from from d (p .groups) (p .reached) (next-here .1)
+      next-later = omega (arith, p .ahead, p .reached d e)
 
       pub next-limit : d < docidLimit
       next-limit = next-here .2
@@ -157,38 +144,41 @@ module _ {leaves lasts masks follows : List ℕ} {n : ℕ} {tree : Tree} {live :
       pub next-from : From d (p .groups)
       next-from = next-here .0
 
-      pub next-tells : RowTells (treeNodes tree) live (p .groups) d
-      next-tells =
-          let s = sym (p .same d next-later) in
+      pub next-tells : (k : ℕ) → d ≤ k → RowTells (treeNodes tree) live (p .groups) k
+      next-tells k h =
+          let s = sym (p .same k (omega (arith, p .reached d e))) in
           record {
-            agrees = subst (Agrees (StandsAt live d) (treeNodes tree)) s (tells d .agrees);
-            fits = subst (λ hits. bodiesSize hits ≤ maxCandidates) s (tells d .fits);
+            agrees = subst (Agrees (StandsAt live k) (treeNodes tree)) s (tells k .agrees);
+            fits = subst (λ hits. bodiesSize hits ≤ maxCandidates) s (tells k .fits);
           }
 
-      -- no docid from `from` up to it is listed
+      -- no docid from `since` up to it is listed
       nothing-between : ListsBelow (λ k. Satisfies live k tree) d listed
       nothing-between =
-          lists-skip (λ k. Satisfies live k tree) from d listed next-later
+          lists-skip (λ k. Satisfies live k tree) (p .since) d listed (p .reached d e)
           (λ k l m s. no-row tree live start k worded (tells k) (sym (p .same k l) ∙ hits-none d k (p .groups) (ordered (p .cursors-are)) next-from m) s)
           (p .lists)
 
       -- the cursors went on
-      module _ {docids₁ bodies₁ : List ℕ} {next₁ : Next} {holds : Bool} (j : Judged leaves docids₁ bodies₁ lasts masks follows n d tree live (p .groups) next₁ holds) where
-        goes-on : (more : List ℕ) → ListsBelow (λ k. Satisfies live k tree) (d + 1) more → Progress leaves docids₁ bodies₁ lasts masks follows n tree live start next₁ (d + 1) more
+      module _ {docids₁ bodies₁ mins₁ : List ℕ} {row : Judged} (j : RowJudged leaves docids₁ bodies₁ lasts masks follows n mins₁ d tree live (p .groups) row) where
+        goes-on : (more : List ℕ) → ListsBelow (λ k. Satisfies live k tree) (d + 1) more → Progress leaves docids₁ bodies₁ lasts masks follows n mins₁ tree live start (row .next) (d + 1) more
         goes-on more l =
             record {
-              groups = moved d (p .groups);
+              groups = j .left;
               cursors-are = j .cursors-are;
+              minima = j .minima;
               next-is = j .next-is;
-              reached = rw add-one (from-moved d (p .groups) (ordered (p .cursors-are)) next-from);
-              same = λ k h. hits-moved d k (λ e. absurd (omega arith)) (p .groups) ∙ p .same k (let m = next-later in omega arith);
-              lists = l;
+              since = j .since;
+              ahead = omega (arith, j .after);
+              reached = j .reached;
+              same = λ k h. j .same k h ∙ p .same k (omega (arith, p .reached d e, j .after));
+              lists = lists-skip (λ k. Satisfies live k tree) (d + 1) (j .since) more (omega (arith, j .after)) (λ k h m. j .between k (omega arith) m) l;
             }
 
-        pub progress-yes : holds ≡ true → Progress leaves docids₁ bodies₁ lasts masks follows n tree live start next₁ (d + 1) (listed ++ d ∷ [])
+        pub progress-yes : row .holds ≡ true → Progress leaves docids₁ bodies₁ lasts masks follows n mins₁ tree live start (row .next) (d + 1) (listed ++ d ∷ [])
         progress-yes h = goes-on (listed ++ d ∷ []) (lists-more (λ k. Satisfies live k tree) d listed (j .judged .0 h) nothing-between)
 
-        pub progress-no : holds ≡ false → Progress leaves docids₁ bodies₁ lasts masks follows n tree live start next₁ (d + 1) listed
+        pub progress-no : row .holds ≡ false → Progress leaves docids₁ bodies₁ lasts masks follows n mins₁ tree live start (row .next) (d + 1) listed
         progress-no h =
             goes-on listed
             (lists-skip (λ k. Satisfies live k tree) d (d + 1) listed (omega arith)

@@ -1,17 +1,30 @@
 // A run of a compiled query over the leaves of an index: from docid to docid, the entries on each make a row, and the
 // docids of the rows that satisfy the query go to the result room.
 use cursors::Next;
+use cursors::Taken;
 ghost use mathlib.Core.Path.{_≡_};
-ghost use Prim.Native.Nat.{_+_, _<_};
+ghost use mathlib.Core.Bool.{true};
+ghost use mathlib.Core.List.{List};
+ghost use Prim.Native.Nat.{ℕ, _+_, _<_};
 ghost use lib.ListN.{length, set};
+ghost use lib.Bits.{bitAnd};
 ghost use Rattle.common.specs.Pick.{pick};
 ghost use Rattle.doclist.specs.Doclist.{docidLimit};
 ghost use Rattle.meaning.specs.Listing.{shown, zeros};
+ghost use Rattle.meaning.specs.Satisfies.{Live};
+ghost use Rattle.query.specs.Tree.{Tree};
+ghost use Rattle.row.specs.Row.{Hit, RowIs};
+ghost use Rattle.cursors.specs.Groups.{Group, NextIs};
+ghost use Rattle.cursors.specs.Arrays.{CursorsAre, MinimaAre};
+ghost use Rattle.evaluate.specs.Needs.{Needed};
 ghost use Rattle.engine.specs.Run.{Ran};
-ghost use Rattle.engine.specs.Rows.{RowsListed};
+ghost use Rattle.engine.specs.Rows.{Lacking, RowDecided, Lone, WentOn, Ready, RowJudged, RowsListed};
 
 // A word takes at least 6 of the leaves' 65,536 bytes, so there are no more cursors than this.
 const MAX_CURSORS: usize = 10922;
+
+// They stand in blocks of 16.
+const MAX_BLOCKS: usize = 683;
 
 // One above the largest docid.
 const DOCID_LIMIT: u64 = 0x8000_0000_0000_0000;
@@ -49,6 +62,152 @@ fn note(room: &mut [i64], count: usize, docid: u64, holds: bool) -> usize
     count
 }
 
+// Whether a set of words lacks one that is needed.
+fn lacks(set: u16, needed: u16) -> bool
+    ensures { λ r. ⌜ (r ≡ true → bitAnd set needed ≡ needed → ⊥) ⌝ }
+{
+    if set & needed == needed {
+        return false;
+    }
+    true
+}
+
+// Whether a row of one hit lacks a word that is needed.
+fn hit_lacks(matched: &[u16], hits: usize, needed: u16) -> bool
+    ensures { λ r. ⌜ (r ≡ true → (leaves starts : List ℕ) (row : List Hit) → RowIs leaves starts (now (matched .entry)) row → hits ≡ length row → Lacking needed row) ⌝ }
+{
+    if hits != 1 {
+        return false;
+    }
+    if matched.len() < 1 {
+        return false;
+    }
+    lacks(matched[0], needed)
+}
+
+// Whether a row satisfies the query, where `needed` are the words that the query needs. A row of one hit that lacks such a
+// word is not evaluated.
+fn row_holds(
+    query: query::Query,
+    needed: u16,
+    leaves: &[u8],
+    starts: &[u16],
+    matched: &[u16],
+    hits: usize,
+    marks: &mut [u64],
+    spare: &mut [u64],
+) -> bool
+    requires { ⌜ Needed (query .ops .codes) (query .ops .len) (query .words .count) needed ⌝ }
+    ensures { λ r. ⌜ RowDecided query (now (leaves .entry)) (now (starts .entry)) (now (matched .entry)) hits (now (marks .entry)) (now (spare .entry)) r ⌝ }
+{
+    if hit_lacks(matched, hits, needed) {
+        return false;
+    }
+    let words = query.words;
+    let ties = words.ties;
+    let distances = words.distances;
+    let columns = words.columns;
+    let ops = query.ops;
+    let codes = ops.codes;
+    evaluate::holds(
+        &ties,
+        &distances,
+        &columns,
+        words.count,
+        &codes,
+        ops.len,
+        leaves,
+        starts,
+        matched,
+        hits,
+        marks,
+        spare,
+    )
+}
+
+// Where to go on behind a row. If just one cursor stood on it, and its word does not match all that are needed, no row
+// before the other cursors satisfies the query: the cursor passes over its own up to them.
+fn go_on(
+    row: Taken,
+    needed: u16,
+    leaves: &[u8],
+    docids: &mut [u64],
+    bodies: &mut [u16],
+    lasts: &[u16],
+    masks: &[u16],
+    n: usize,
+    mins: &mut [u64],
+) -> Next
+    ensures { λ r. ⌜ ((follows : List ℕ) (groups : List Group) → CursorsAre (now (leaves .entry)) (now (docids .entry)) (now (bodies .entry)) (now (lasts .entry)) (now (masks .entry)) follows n groups → MinimaAre (now (docids .entry)) n (now (mins .entry)) → NextIs groups (row .next) → Lone (now (docids .entry)) n row → WentOn (now (leaves .entry)) (now (docids .exit)) (now (bodies .exit)) (now (lasts .entry)) (now (masks .entry)) follows n (now (mins .exit)) needed groups r) ⌝ }
+{
+    let next = row.next;
+    if row.taken != 1 {
+        return next;
+    }
+    let last = row.last;
+    if masks.len() <= last {
+        return next;
+    }
+    if !lacks(masks[last], needed) {
+        return next;
+    }
+    cursors::pass(last, row.rest, leaves, docids, bodies, lasts, n, mins)
+}
+
+// What a row comes to: whether it satisfies the query, and where to go on.
+struct Judged {
+    holds: bool,
+    next: Next,
+}
+
+// Takes the row at a docid before which no cursor stands, and judges it. `needed` are the words that the query needs.
+fn take_row(
+    query: query::Query,
+    needed: u16,
+    docid: u64,
+    leaves: &[u8],
+    docids: &mut [u64],
+    bodies: &mut [u16],
+    lasts: &[u16],
+    masks: &[u16],
+    follows: &[u8],
+    n: usize,
+    mins: &mut [u64],
+    starts: &mut [u16],
+    matched: &mut [u16],
+    marks: &mut [u64],
+    spare: &mut [u64],
+) -> Judged
+    requires { ⌜ Needed (query .ops .codes) (query .ops .len) (query .words .count) needed ⌝ }
+    ensures { λ r. ⌜ ((tree : Tree) (live : Live) (groups : List Group) → Ready query (now (leaves .entry)) (now (docids .entry)) (now (bodies .entry)) (now (lasts .entry)) (now (masks .entry)) (now (follows .entry)) n (now (mins .entry)) docid (now (starts .entry)) (now (matched .entry)) (now (marks .entry)) (now (spare .entry)) tree live groups → RowJudged (now (leaves .entry)) (now (docids .exit)) (now (bodies .exit)) (now (lasts .entry)) (now (masks .entry)) (now (follows .entry)) n (now (mins .exit)) docid tree live groups r) ⌝ }
+{
+    let row = cursors::advance(
+        docid,
+        leaves,
+        docids,
+        bodies,
+        lasts,
+        masks,
+        follows,
+        n,
+        mins,
+        starts,
+        matched,
+    );
+    let next = go_on(row, needed, leaves, docids, bodies, lasts, masks, n, mins);
+    let holds = row_holds(
+        query,
+        needed,
+        leaves,
+        starts,
+        matched,
+        row.hits,
+        marks,
+        spare,
+    );
+    Judged { holds, next }
+}
+
 // Goes through all rows, from the least docid on. The docids of those that satisfy the query go to the room, which is all
 // zeros. How many they are.
 fn rows(
@@ -65,16 +224,16 @@ fn rows(
     requires { ⌜ now room ≡ zeros (length (now room)) ⌝ }
     ensures { λ r. ⌜ RowsListed query (now (leaves .entry)) (now (docids .entry)) (now (bodies .entry)) (now (lasts .entry)) (now (masks .entry)) (now (follows .entry)) n (length (now (room .entry))) r (now (room .exit)) ⌝ }
 {
-    let words = query.words;
-    let ties = words.ties;
-    let distances = words.distances;
-    let columns = words.columns;
-    let ops = query.ops;
-    let codes = ops.codes;
-    let mut starts = [0u32; MAX_CURSORS];
+    let mut starts = [0u16; MAX_CURSORS];
     let mut matched = [0u16; MAX_CURSORS];
     let mut marks = [0u64; chain::MARK_WORDS];
     let mut spare = [0u64; chain::MARK_WORDS];
+    let mut mins = [0u64; MAX_BLOCKS];
+    let words = query.words;
+    let ops = query.ops;
+    let codes = ops.codes;
+    let needed = evaluate::needs(&codes, ops.len, words.count);
+    cursors::minima(docids, n, &mut mins);
     let mut next = cursors::least(docids, n);
     let mut from: u64 = 0;
     let mut count: usize = 0;
@@ -88,7 +247,9 @@ fn rows(
         if DOCID_LIMIT <= docid {
             return count;
         }
-        let row = cursors::advance(
+        let row = take_row(
+            query,
+            needed,
             docid,
             leaves,
             docids,
@@ -97,24 +258,13 @@ fn rows(
             masks,
             follows,
             n,
+            &mut mins,
             &mut starts,
             &mut matched,
-        );
-        let holds = evaluate::holds(
-            &ties,
-            &distances,
-            &columns,
-            words.count,
-            &codes,
-            ops.len,
-            leaves,
-            &starts,
-            &matched,
-            row.hits,
             &mut marks,
             &mut spare,
         );
-        count = note(room, count, docid, holds);
+        count = note(room, count, docid, row.holds);
         from = docid + 1;
         next = row.next;
     }

@@ -17,7 +17,7 @@ use Rattle.evaluate.specs.Evaluate.{Compiled, RowGiven, Decides, Runs}
 -- ---- the query
 
 -- values with zeros behind them
-padded-cut : (n k : ℕ) (vs array : List ℕ) → array ≡ padded n vs → k ≡ length vs → take k array ≡ vs
+pub padded-cut : (n k : ℕ) (vs array : List ℕ) → array ≡ padded n vs → k ≡ length vs → take k array ≡ vs
 padded-cut n k vs array e f = ap (take k) e ∙ take-at vs (replicate (n - length vs) 0) k (sym f)
 
 padded-room : (n k : ℕ) (vs array : List ℕ) → array ≡ padded n vs → k ≡ length vs → k ≤ length array

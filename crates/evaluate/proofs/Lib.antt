@@ -1,3 +1,4 @@
 pub mod Postfix
 pub mod Running
 pub mod Cuts
+pub mod Needing

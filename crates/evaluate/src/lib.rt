@@ -1,6 +1,9 @@
 // Whether a compiled query holds in one row: its codes in postfix order, with a stack of bits.
 ghost use mathlib.Core.Path.{_≡_};
+ghost use Prim.Native.Nat.{_≤_};
+ghost use Rattle.lexer.specs.Token.{maxWords};
 ghost use Rattle.evaluate.specs.Evaluate.{Decides, Runs, pushed, combined, applied, topOf};
+ghost use Rattle.evaluate.specs.Needs.{conjunctive, firstWords, Needed};
 
 // The codes of a compiled query. What is none of them is taken as NOT.
 const CODE_CHAIN: u8 = 0;
@@ -8,6 +11,9 @@ const CODE_CHAIN: u8 = 0;
 const CODE_AND: u8 = 1;
 
 const CODE_OR: u8 = 2;
+
+// A query has no more words than this.
+const MAX_WORDS: usize = 16;
 
 // The stack keeps 31 bits when one more is pushed; 16 chains never need more than 16.
 const KEPT: u32 = 0x8000_0000;
@@ -56,7 +62,7 @@ fn run(
     columns: &[u16],
     codes: &[u8],
     leaves: &[u8],
-    starts: &[u32],
+    starts: &[u16],
     masks: &[u16],
     marks: &mut [u64],
     spare: &mut [u64],
@@ -103,7 +109,7 @@ pub fn holds(
     codes: &[u8],
     len: usize,
     leaves: &[u8],
-    starts: &[u32],
+    starts: &[u16],
     masks: &[u16],
     hits: usize,
     marks: &mut [u64],
@@ -140,4 +146,43 @@ pub fn holds(
         marks,
         spare,
     )
+}
+
+// Whether the codes are those of chains and AND alone.
+fn is_conjunction(codes: &[u8]) -> bool
+    ensures { λ r. ⌜ r ≡ conjunctive (now (codes .entry)) ⌝ }
+{
+    let mut i: usize = 0;
+    while i < codes.len() {
+        if CODE_AND < codes[i] {
+            return false;
+        }
+        i += 1;
+    }
+    true
+}
+
+// The set of the first `count` words, bit i for word number i.
+fn first_words(count: usize) -> u16
+    requires { ⌜ count ≤ maxWords ⌝ }
+    ensures { λ r. ⌜ r ≡ firstWords count ⌝ }
+{
+    ((1u32 << count) - 1) as u16
+}
+
+// The set of words that every row which satisfies the query has: all of its `count` words where its `len` codes have no OR
+// and no NOT, else none.
+pub fn needs(codes: &[u8], len: usize, count: usize) -> u16
+    ensures { λ r. ⌜ Needed (now (codes .entry)) len count r ⌝ }
+{
+    if codes.len() < len {
+        return 0;
+    }
+    if MAX_WORDS < count {
+        return 0;
+    }
+    if !is_conjunction(&codes[..len]) {
+        return 0;
+    }
+    first_words(count)
 }

@@ -2,4 +2,3 @@ pub mod General
 pub mod Bodies
 pub mod Rows
 pub mod Candidates
-pub mod Standing

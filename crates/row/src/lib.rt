@@ -6,14 +6,10 @@
 // Column 0 is not announced, and the sum of the positions starts anew in each column.
 use varint::Varint;
 ghost use mathlib.Core.Path.{_≡_};
-ghost use mathlib.Core.Logic.{_↔_};
-ghost use mathlib.Core.Bool.{true};
-ghost use mathlib.Core.List.{List};
 ghost use Prim.Native.Nat.{_^_, _<_};
 ghost use lib.ListN.{drop};
 ghost use Rattle.lexer.specs.Token.{allows};
-ghost use Rattle.row.specs.Row.{Hit, StandsIn};
-ghost use Rattle.row.specs.Walk.{WholeRow, positionOf, stepOf, openedOf, firstOf, First, Next};
+ghost use Rattle.row.specs.Walk.{positionOf, stepOf, openedOf, firstOf, First, Next};
 
 // The number that ends a body.
 const CLOSE: u64 = 0;
@@ -121,7 +117,7 @@ fn step_from(leaves: &[u8], column: u64, base: u64, at: usize) -> Step
 }
 
 // The first position of a hit, if the hit matches the query's word number `i`.
-fn opened(leaves: &[u8], mask: u16, start: u32, i: usize) -> Step
+fn opened(leaves: &[u8], mask: u16, start: u16, i: usize) -> Step
     ensures { λ r. ⌜ r ≡ openedOf (now (leaves .entry)) i start mask ⌝ }
 {
     if contains(mask, i) {
@@ -131,7 +127,7 @@ fn opened(leaves: &[u8], mask: u16, start: u32, i: usize) -> Step
 }
 
 // The first position of the hits from the number `from` on that match the query's word number `i`.
-fn first_from(leaves: &[u8], starts: &[u32], masks: &[u16], i: usize, from: usize) -> Found
+fn first_from(leaves: &[u8], starts: &[u16], masks: &[u16], i: usize, from: usize) -> Found
     ensures { λ r. ⌜ r ≡ firstOf (now (leaves .entry)) i from (drop from (now (starts .entry))) (drop from (now (masks .entry))) ⌝ }
 {
     let mut hit = from;
@@ -157,14 +153,14 @@ fn first_from(leaves: &[u8], starts: &[u32], masks: &[u16], i: usize, from: usiz
 }
 
 // The first position of a row's hits that match the query's word number `i`.
-pub fn first(leaves: &[u8], starts: &[u32], masks: &[u16], i: usize) -> Found
+pub fn first(leaves: &[u8], starts: &[u16], masks: &[u16], i: usize) -> Found
     ensures { λ r. ⌜ First (now (leaves .entry)) (now (starts .entry)) (now (masks .entry)) i r ⌝ }
 {
     first_from(leaves, starts, masks, i, 0)
 }
 
 // The next position, behind one that was found.
-pub fn advance(leaves: &[u8], starts: &[u32], masks: &[u16], i: usize, place: Place) -> Found
+pub fn advance(leaves: &[u8], starts: &[u16], masks: &[u16], i: usize, place: Place) -> Found
     ensures { λ r. ⌜ Next (now (leaves .entry)) (now (starts .entry)) (now (masks .entry)) i place r ⌝ }
 {
     let Step::At {
@@ -181,29 +177,4 @@ pub fn advance(leaves: &[u8], starts: &[u32], masks: &[u16], i: usize, place: Pl
         position,
         next,
     })
-}
-
-// Whether the query's word number `i` stands at a position of a column.
-pub fn stands(
-    leaves: &[u8],
-    starts: &[u32],
-    masks: &[u16],
-    i: usize,
-    column: u64,
-    position: u64,
-) -> bool
-    ensures { λ r. ⌜ ((hits : List Hit) → WholeRow (now (leaves .entry)) (now (starts .entry)) (now (masks .entry)) hits → (r ≡ true) ↔ StandsIn hits i column position) ⌝ }
-{
-    let mut found = first(leaves, starts, masks, i);
-    loop {
-        let Found::At(place) = found else {
-            return false;
-        };
-        if place.column == column {
-            if place.position == position {
-                return true;
-            }
-        }
-        found = advance(leaves, starts, masks, i, place);
-    }
 }

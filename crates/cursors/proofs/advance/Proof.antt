@@ -1,79 +1,111 @@
--- `cursors::advance` meets its contract. The loop's invariant: the first `i` cursors have moved on, and their hits are written.
+-- `cursors::advance` meets its contract. The loop's invariant: the first `b` blocks are passed, and the least docid of each block
+-- is right.
+use lib.ListN.{length-set, length, getD, take}
+use Rattle.common.specs.Bytes.{part}
 use Rattle.common.proofs.Cases.{false-not-true}
-use Rattle.common.specs.Pick.{pick}
-use lib.ListN.{length-set}
-use Rattle.cursors.specs.Arrays.{leastOf, nextOf}
-use Rattle.cursors.proofs.Docids.{least-more, least-set}
-use Rattle.cursors.proofs.Passing.{Ready, Passing, Sizes, passing-start, passing-other, passing-on, passing-end, hits-few}
-use Rattle.cursors.specs.Groups.{Group}
 use borrow.Author.Tests.{not-true, not-false}
 use mathlib.Core.Path.{_≡_, refl, sym, ap, _∙_, subst}
 use mathlib.Core.List.{List}
-use mathlib.Core.Bool.{Bool, true, false}
-use Prim.Native.Nat.{ℕ, _+_, _-_}
+use Prim.Native.Nat.{ℕ, _-_, _*_, _≤_, _<_, min}
 use native.Mathlib.Omega.{arith}
 use borrow.Author.Needs.{needs}
-use lib.ListN.{length, getD, take, set}
+use Rattle.cursors.specs.Groups.{Group}
+use Rattle.cursors.specs.Arrays.{leastOf, nextOf, blockSize, MinimaAre, RowTaken}
+use Rattle.cursors.specs.Scanning.{Fits, Scanned}
+use Rattle.cursors.specs.declared.Scan.{Scan}
+use Rattle.cursors.proofs.Blocks.{minima-set, least-passed, least-taken}
+use Rattle.cursors.proofs.Scanning.{Ready, scanned-start, scanned-lower, scanned-block, scanned-end}
 use Rattle.cursors.proofs.advance.Statement.{statement}
 use Rattle.cursors.proofs.advance.Tie as tie
 
 abbrev Inv-loop : tie.InvT-loop
-Inv-loop docid leaves docids₀ bodies₀ lasts masks follows n starts₀ matched₀ least₀ hits₀ hidden₀ i₀ docids bodies starts matched least hits hidden i =
-    Sizes n docids₀ bodies₀ lasts masks follows starts₀ matched₀ docids bodies starts matched hits i
-    × (least ≡ leastOf (take i docids))
-    × ((gs : List Group) → Ready leaves docids₀ bodies₀ lasts masks follows n starts₀ matched₀ docid gs → Passing leaves docids bodies lasts masks follows n starts matched docid gs hits hidden i)
+Inv-loop docid leaves docids₀ bodies₀ lasts masks follows n mins₀ starts₀ matched₀ scan₀ from₀ b₀ docids bodies mins starts matched scan from b =
+    Fits from n docids bodies lasts masks follows starts matched
+    × (n ≤ blockSize * length mins)
+    × (length docids ≡ length docids₀)
+    × (length bodies ≡ length bodies₀)
+    × (length mins ≡ length mins₀)
+    × (length starts ≡ length starts₀)
+    × (length matched ≡ length matched₀)
+    × (from ≡ min n (blockSize * b))
+    × (scan .hits ≤ from)
+    × (scan .taken ≤ from)
+    × ((gs : List Group) → Ready leaves docids₀ bodies₀ lasts masks follows n mins₀ starts₀ matched₀ docid gs
+    → MinimaAre docids n mins
+    × (min (scan .rest) (scan .moved) ≡ leastOf (take from docids))
+    × Scanned leaves docids bodies lasts masks follows n starts matched docid gs scan from)
 
 abbrev μ-loop : tie.MeasureT-loop
-μ-loop docid leaves docids₀ bodies₀ lasts masks follows n starts₀ matched₀ least₀ hits₀ hidden₀ i₀ docids bodies starts matched least hits hidden i = n - i
+μ-loop docid leaves docids₀ bodies₀ lasts masks follows n mins₀ starts₀ matched₀ scan₀ from₀ b₀ docids bodies mins starts matched scan from b =
+    n - from
+
+can-move-requires : tie.Need-can-move-requires Inv-loop μ-loop
+can-move-requires c κs = search needs
+
+end-scan-requires : tie.Need-end-scan-requires Inv-loop μ-loop
+end-scan-requires c κs = search needs
+
+returns : tie.Need-returns Inv-loop μ-loop
+returns c =
+    λ gs are minima limit from hs hm.
+    let h = are .hold .room in
+    absurd (false-not-true {X = ⊥} (sym (not-true _ (c .before .if1 .taken)) ∙ c .before .before .can-move .ensures .1 (h .docid-room, h .body-room, h .last-room, minima .room)))
 
 has-room-requires : tie.Need-has-room-requires Inv-loop μ-loop
 has-room-requires c κs = search needs
 
-returns : tie.Need-returns Inv-loop μ-loop
-returns c =
-    λ gs are limit from hs hm.
+end-scan-requires-2 : tie.Need-end-scan-requires-2 Inv-loop μ-loop
+end-scan-requires-2 c κs = search needs
+
+returns-2 : tie.Need-returns-2 Inv-loop μ-loop
+returns-2 c =
+    λ gs are minima limit from hs hm.
     let h = are .hold .room in
-    false-not-true (sym (not-true _ (c .if1 .taken)) ∙ c .before .has-room .ensures .1 (h .docid-room, h .body-room, h .last-room, h .mask-room, h .follow-room, hs, hm))
+    absurd (false-not-true {X = ⊥} (sym (not-true _ (c .before .if2 .taken)) ∙ c .before .before .has-room .ensures .1 (h .mask-room, h .follow-room, hs, hm)))
 
 loop-holds : tie.Need-loop-holds Inv-loop μ-loop
 loop-holds c =
-    let r = c .before .has-room .ensures .0 (not-false _ (c .if1 .left)) in (
+    let m = c .before .before .before .can-move .ensures .0 (not-false _ (c .before .before .if1 .left)) in
+    let r = c .before .has-room .ensures .0 (not-false _ (c .if2 .left)) in (
       record {
-        docid-room = r .0;
-        body-room = r .1;
-        last-room = r .2;
-        mask-room = r .3;
-        follow-room = r .4;
-        start-room = r .5;
-        matched-room = r .6;
-        docid-size = refl;
-        body-size = refl;
-        start-size = refl;
-        matched-size = refl;
-        within = omega arith;
-        few = omega arith;
+        block = omega arith;
+        docid-room = m .0;
+        body-room = m .1;
+        last-room = m .2;
+        mask-room = r .0;
+        follow-room = r .1;
+        start-room = r .2;
+        matched-room = r .3;
       },
+      m .3,
       refl,
-      λ gs r. passing-start r,
+      refl,
+      refl,
+      refl,
+      refl,
+      omega arith,
+      omega arith,
+      omega arith,
+      λ gs q. (q .minima, refl, scanned-start _ _ q),
     )
 
-mul-at : tie.Need-mul-at Inv-loop μ-loop
-mul-at c = search needs
+block-end-requires : tie.Need-block-end-requires Inv-loop μ-loop
+block-end-requires c κs = search needs
 
-slice-read-at : tie.Need-slice-read-at Inv-loop μ-loop
-slice-read-at c = search needs
+mul-least : tie.Need-mul-least Inv-loop μ-loop
+mul-least c = search needs
 
-shared-slice-read-is-hidden : tie.Need-shared-slice-read-is-hidden Inv-loop μ-loop
-shared-slice-read-is-hidden c = search needs
+slice-read-least : tie.Need-slice-read-least Inv-loop μ-loop
+slice-read-least c = search needs
 
-is-hidden-requires : tie.Need-is-hidden-requires Inv-loop μ-loop
-is-hidden-requires c κs = search needs
+gives-nothing-requires : tie.Need-gives-nothing-requires Inv-loop μ-loop
+gives-nothing-requires c κs = search needs
 
-lesser-requires : tie.Need-lesser-requires Inv-loop μ-loop
-lesser-requires c κs = search needs
+over-other-requires : tie.Need-over-other-requires Inv-loop μ-loop
+over-other-requires c κs = search needs
 
-add-i : tie.Need-add-i Inv-loop μ-loop
-add-i c = search needs
+add-b : tie.Need-add-b Inv-loop μ-loop
+add-b c = search needs
 
 loop-less : tie.Need-loop-less Inv-loop μ-loop
 loop-less c = search needs
@@ -81,133 +113,145 @@ loop-less c = search needs
 loop-again : tie.Need-loop-again Inv-loop μ-loop
 loop-again c =
     let l = c .before .before .before .before .before .before .loop in
-    let a = c .before .before .before .before .before .before .before .before .before .before .before .before .before .before .before .before .before .args in
-    let z = l .inv .0 in
-    let t = c .before .before .before .before .before .loop-test .taken in (
+    let a = c .before .before .before .before .before .before .before .before .before .before .before .before .before .before .before .before .before .before .before .before .args in
+    let f = l .inv .0 in
+    let t = c .before .before .before .before .before .loop-test .taken in
+    let to = c .before .before .before .before .block-end .result in
+    let m : ℕ = getD (l .mins) (l .b) 0 in
+    let q : l .from ≡ blockSize * l .b = omega (arith, l .inv .7) in
+    let ends = c .before .before .before .before .block-end .ensures in
+    let e = c .over-other .ensures in
+    let g = c .before .before .gives-nothing .ensures (c .before .if3 .taken) in (
       record {
-        docid-room = z .docid-room;
-        body-room = z .body-room;
-        last-room = z .last-room;
-        mask-room = z .mask-room;
-        follow-room = z .follow-room;
-        start-room = z .start-room;
-        matched-room = z .matched-room;
-        docid-size = z .docid-size;
-        body-size = z .body-size;
-        start-size = z .start-size;
-        matched-size = z .matched-size;
-        within = omega arith;
-        few = omega (arith, z .few);
+        block = omega arith;
+        docid-room = f .docid-room;
+        body-room = f .body-room;
+        last-room = f .last-room;
+        mask-room = f .mask-room;
+        follow-room = f .follow-room;
+        start-room = f .start-room;
+        matched-room = f .matched-room;
       },
-      c .lesser .ensures ∙ least-more (l .docids) (l .i) (l .least) (omega (arith, z .docid-room, z .docid-size)) (l .inv .1),
+      l .inv .1,
+      l .inv .2,
+      l .inv .3,
+      l .inv .4,
+      l .inv .5,
+      l .inv .6,
+      omega arith,
+      subst (λ (s : Scan). s .hits ≤ to) (sym e) (omega (arith, l .inv .8)),
+      subst (λ (s : Scan). s .taken ≤ to) (sym e) (omega (arith, l .inv .9)),
       λ gs r.
-          subst (λ (b : Bool). Passing (a .leaves .now) (l .docids) (l .bodies) (a .lasts .now) (a .masks .now) (a .follows .now) (a .n) (l .starts) (l .matched) (a .docid) gs (l .hits) b (l .i + 1))
-          (sym (c .before .before .is-hidden .ensures))
-          (passing-other (a .leaves .now) (l .docids) (l .bodies) (a .lasts .now) (a .masks .now) (a .follows .now) (a .n) (l .starts) (l .matched) (a .docid) gs (l .hits) (l .hidden) (l .i) t
-          (r .cursors-are .hold .count) (l .inv .2 gs r) (c .before .if2 .taken)),
+          let p = l .inv .10 gs r in (
+            p .0,
+            subst (λ (s : Scan). min (s .rest) (s .moved) ≡ leastOf (take to (l .docids))) (sym e)
+                (least-passed (l .docids) (l .mins) (a .n) (l .b) (l .from) to (l .scan .rest) (l .scan .moved) (p .0) (f .docid-room) q t ends (p .1)),
+            subst (λ (s : Scan). Scanned (a .leaves .now) (l .docids) (l .bodies) (a .lasts .now) (a .masks .now) (a .follows .now) (a .n) (l .starts) (l .matched) (a .docid) gs s to) (sym e)
+                (scanned-block (a .leaves .now) (l .docids) (l .bodies) (a .lasts .now) (a .masks .now) (a .follows .now) (a .n) (l .starts) (l .matched) (a .docid) gs (l .from) (l .mins) (l .b) to (l .scan)
+                (p .0) (r .from) (f .docid-room) q t ends (g .0) (g .1) (p .2)),
+          ),
     )
 
-mul-starts : tie.Need-mul-starts Inv-loop μ-loop
-mul-starts c = search needs
+take-block-requires : tie.Need-take-block-requires Inv-loop μ-loop
+take-block-requires c κs =
+    let l = c .before .before .before .before .before .before .before .before .before .loop in
+    let f = l .inv .0 in
+    let ends = c .before .before .before .before .before .before .before .block-end .ensures in (
+      record {
+        block = omega arith;
+        docid-room = omega (arith, f .docid-room);
+        body-room = omega (arith, f .body-room);
+        last-room = omega (arith, f .last-room);
+        mask-room = omega (arith, f .mask-room);
+        follow-room = omega (arith, f .follow-room);
+        start-room = omega (arith, f .start-room);
+        matched-room = omega (arith, f .matched-room);
+      },
+      l .inv .8,
+      l .inv .9,
+    )
 
-slice-read-starts : tie.Need-slice-read-starts Inv-loop μ-loop
-slice-read-starts c = search needs
+lesser-requires : tie.Need-lesser-requires Inv-loop μ-loop
+lesser-requires c κs = search needs
 
-cast-starts : tie.Need-cast-starts Inv-loop μ-loop
-cast-starts c = omega (arith, c .slice-known6 .given (c .before .before .before .before .before .before .loop .i))
+mul-mins : tie.Need-mul-mins Inv-loop μ-loop
+mul-mins c = search needs
 
-mul-starts-2 : tie.Need-mul-starts-2 Inv-loop μ-loop
-mul-starts-2 c = search needs
+slice-write-mins : tie.Need-slice-write-mins Inv-loop μ-loop
+slice-write-mins c = search needs
 
-slice-write-starts : tie.Need-slice-write-starts Inv-loop μ-loop
-slice-write-starts c = search needs
+join-requires : tie.Need-join-requires Inv-loop μ-loop
+join-requires c κs = search needs
 
-mul-matched : tie.Need-mul-matched Inv-loop μ-loop
-mul-matched c = search needs
-
-shared-slice-read-matched : tie.Need-shared-slice-read-matched Inv-loop μ-loop
-shared-slice-read-matched c = search needs
-
-mul-matched-2 : tie.Need-mul-matched-2 Inv-loop μ-loop
-mul-matched-2 c = search needs
-
-slice-write-matched : tie.Need-slice-write-matched Inv-loop μ-loop
-slice-write-matched c = search needs
-
-hits-after-requires : tie.Need-hits-after-requires Inv-loop μ-loop
-hits-after-requires c κs = search needs
-
-mul-entry-after : tie.Need-mul-entry-after Inv-loop μ-loop
-mul-entry-after c = search needs
-
-slice-read-entry-after : tie.Need-slice-read-entry-after Inv-loop μ-loop
-slice-read-entry-after c = search needs
-
-mul-entry-after-2 : tie.Need-mul-entry-after-2 Inv-loop μ-loop
-mul-entry-after-2 c = search needs
-
-shared-slice-read-entry-after : tie.Need-shared-slice-read-entry-after Inv-loop μ-loop
-shared-slice-read-entry-after c = search needs
-
-entry-after-requires : tie.Need-entry-after-requires Inv-loop μ-loop
-entry-after-requires c κs = search needs
-
-mul-docids : tie.Need-mul-docids Inv-loop μ-loop
-mul-docids c = search needs
-
-slice-write-docids : tie.Need-slice-write-docids Inv-loop μ-loop
-slice-write-docids c = search needs
-
-mul-bodies : tie.Need-mul-bodies Inv-loop μ-loop
-mul-bodies c = search needs
-
-slice-write-bodies : tie.Need-slice-write-bodies Inv-loop μ-loop
-slice-write-bodies c = search needs
-
-lesser-requires-2 : tie.Need-lesser-requires-2 Inv-loop μ-loop
-lesser-requires-2 c κs = search needs
-
-add-i-2 : tie.Need-add-i-2 Inv-loop μ-loop
-add-i-2 c = search needs
+add-b-2 : tie.Need-add-b-2 Inv-loop μ-loop
+add-b-2 c = omega (arith, c .before .before .before .before .before .before .before .before .before .before .before .before .before .before .before .before .before .before .before .before .loop .inv .7, c .before .before .before .before .before .before .before .before .before .before .before .before .before .before .before .before .before .before .before .loop-test .taken, c .before .before .before .before .before .before .before .before .before .before .before .before .before .before .before .before .before .before .before .before .before .before .before .before .before .before .before .before .before .before .before .before .before .before .fits .n)
 
 loop-less-2 : tie.Need-loop-less-2 Inv-loop μ-loop
 loop-less-2 c = search needs
 
 loop-again-2 : tie.Need-loop-again-2 Inv-loop μ-loop
 loop-again-2 c =
-    let l = c .before .before .before .before .before .before .before .before .before .before .before .before .loop in
-    let a = c .before .before .before .before .before .before .before .before .before .before .before .before .before .before .before .before .before .before .before .before .before .before .before .args in
-    let z = l .inv .0 in
-    let t = c .before .before .before .before .before .before .before .before .before .before .before .loop-test .taken in
-    let place = c .before .entry-after .result in
-    let hs = c .before .before .before .before .hits-after .ensures ∙ ap (λ (b : Bool). pick b (l .hits) (l .hits + 1)) (c .before .before .before .before .before .before .before .before .is-hidden .ensures) in (
+    let l = c .before .before .before .before .before .before .before .before .before .before .before .before .before .before .before .before .before .before .before .before .loop in
+    let a = c .before .before .before .before .before .before .before .before .before .before .before .before .before .before .before .before .before .before .before .before .before .before .before .before .before .before .before .before .before .before .before .before .before .before .args in
+    let f = l .inv .0 in
+    let t = c .before .before .before .before .before .before .before .before .before .before .before .before .before .before .before .before .before .before .before .loop-test .taken in
+    let to = c .before .before .before .before .before .before .before .before .before .before .before .before .before .before .before .before .before .before .block-end .result in
+    let q : l .from ≡ blockSize * l .b = omega (arith, l .inv .7) in
+    let ends = c .before .before .before .before .before .before .before .before .before .before .before .before .before .before .before .before .before .before .block-end .ensures in
+    let k = c .before .before .before .before .before .before .before .before .before .before .take-block in
+    let docids : List ℕ = k .last .1 .1 .0 in
+    let bodies : List ℕ = k .last .1 .1 .1 .0 in
+    let starts : List ℕ = k .last .1 .1 .1 .1 .1 .1 .1 .1 .1 .0 in
+    let matched : List ℕ = k .last .1 .1 .1 .1 .1 .1 .1 .1 .1 .1 .0 in
+    let dl = k .kept .1 .1 .0 in
+    let bl = k .kept .1 .1 .1 .0 in
+    let sl = k .kept .1 .1 .1 .1 .1 .1 .1 .1 .1 .0 in
+    let ml = k .kept .1 .1 .1 .1 .1 .1 .1 .1 .1 .1 .0 in
+    let block = k .ensures .0 in
+    let e = c .join .ensures in
+    let m = c .before .lesser .result in
+    let least : m ≡ leastOf (part docids (l .from) to) = omega (arith, c .before .lesser .ensures, block .least) in
+    let z = length-set (l .mins) (l .b) m in (
       record {
-        docid-room = z .docid-room;
-        body-room = z .body-room;
-        last-room = z .last-room;
-        mask-room = z .mask-room;
-        follow-room = z .follow-room;
-        start-room = z .start-room;
-        matched-room = z .matched-room;
-        docid-size = length-set (l .docids) (l .i) (place .docid) ∙ z .docid-size;
-        body-size = length-set (l .bodies) (l .i) (place .body) ∙ z .body-size;
-        start-size = length-set (l .starts) (l .hits) _ ∙ z .start-size;
-        matched-size = length-set (l .matched) (l .hits) _ ∙ z .matched-size;
-        within = omega arith;
-        few = hits-few (c .before .before .before .before .before .before .before .before .is-hidden .result) (l .hits) (l .i) _ (c .before .before .before .before .hits-after .ensures) (z .few);
+        block = omega arith;
+        docid-room = omega (arith, f .docid-room);
+        body-room = omega (arith, f .body-room);
+        last-room = f .last-room;
+        mask-room = f .mask-room;
+        follow-room = f .follow-room;
+        start-room = omega (arith, f .start-room);
+        matched-room = omega (arith, f .matched-room);
       },
-      c .lesser2 .ensures ∙ least-set (l .docids) (l .i) (l .least) (place .docid) (omega (arith, z .docid-room, z .docid-size)) (l .inv .1),
+      omega (arith, l .inv .1),
+      dl ∙ l .inv .2,
+      bl ∙ l .inv .3,
+      z ∙ l .inv .4,
+      sl ∙ l .inv .5,
+      ml ∙ l .inv .6,
+      omega arith,
+      subst (λ (s : Scan). s .hits ≤ to) (sym e) (block .few-hits),
+      subst (λ (s : Scan). s .taken ≤ to) (sym e) (block .few-taken),
       λ gs r.
-          subst (λ (h : ℕ). Passing (a .leaves .now) (set (l .docids) (l .i) (place .docid)) (set (l .bodies) (l .i) (place .body)) (a .lasts .now) (a .masks .now) (a .follows .now) (a .n) (set (l .starts) (l .hits) (getD (l .bodies) (l .i) 0)) (set (l .matched) (l .hits) (getD (a .masks .now) (l .i) 0)) (a .docid) gs h true (l .i + 1))
-          (sym hs)
-          (passing-on (a .leaves .now) (l .docids) (l .bodies) (a .lasts .now) (a .masks .now) (a .follows .now) (a .n) (l .starts) (l .matched) (a .docid) gs (l .hits) (l .hidden) (l .i) t
-          (r .cursors-are .hold .count) (l .inv .2 gs r) (place .docid) (place .body) (r .limit) (r .cursors-are .small)
-          (omega (arith, z .docid-room, z .docid-size)) (omega (arith, z .body-room, z .body-size)) (omega (arith, z .start-room, z .start-size, z .few)) (omega (arith, z .matched-room, z .matched-size, z .few))
-          (c .before .before .before .before .before .before .before .if2 .left) (c .before .entry-after .ensures)),
+          let p = l .inv .10 gs r in (
+            minima-set docids (l .mins) (a .n) (l .b) to m (omega (arith, f .docid-room)) (l .inv .1) (omega arith) (omega arith)
+                (least ∙ ap (λ (x : ℕ). leastOf (part docids x to)) q) (l .docids) (p .0) dl
+                (λ j o. block .others j (λ (u : l .from ≤ j) (v : j < to). o (omega arith) v)),
+            subst (λ (s : Scan). min (s .rest) (s .moved) ≡ leastOf (take to docids)) (sym e)
+                (least-taken (l .docids) docids (l .from) to (l .scan) (k .result) (omega arith) (omega (arith, f .docid-room)) dl block (p .1)),
+            subst (λ (s : Scan). Scanned (a .leaves .now) docids bodies (a .lasts .now) (a .masks .now) (a .follows .now) (a .n) starts matched (a .docid) gs s to) (sym e)
+                (k .ensures .1 (a .n) gs (l .scan) (omega arith)
+                (scanned-lower (a .leaves .now) (l .docids) (l .bodies) (a .lasts .now) (a .masks .now) (a .follows .now) (a .n) (l .starts) (l .matched) (a .docid) gs (l .from) _ _ (l .scan) (p .2))),
+          ),
     )
+
+lesser-requires-2 : tie.Need-lesser-requires-2 Inv-loop μ-loop
+lesser-requires-2 c κs = search needs
 
 next-of-requires : tie.Need-next-of-requires Inv-loop μ-loop
 next-of-requires c κs = search needs
+
+end-scan-requires-3 : tie.Need-end-scan-requires-3 Inv-loop μ-loop
+end-scan-requires-3 c κs = search needs
 
 same-length : tie.Need-same-length Inv-loop μ-loop
 same-length c = search needs
@@ -221,17 +265,23 @@ same-length-3 c = search needs
 same-length-4 : tie.Need-same-length-4 Inv-loop μ-loop
 same-length-4 c = search needs
 
-returns-2 : tie.Need-returns-2 Inv-loop μ-loop
-returns-2 c =
-    let l = c .before .before .loop in
-    let a = c .before .before .before .before .before .before .before .before .before .before .before .before .before .args in
-    let z = l .inv .0 in
-    let q : l .i ≡ a .n = omega (arith, z .within, c .before .loop-test .left) in
-    λ gs are limit from hs hm.
-    let r : Ready (a .leaves .now) (a .docids .now) (a .bodies .now) (a .lasts .now) (a .masks .now) (a .follows .now) (a .n) (a .starts .now) (a .matched .now) (a .docid) gs =
-    record { cursors-are = are; limit = limit; from = from; start-room = hs; matched-room = hm } in
-    passing-end (l .i) (c .next-of .result) r (omega (arith, z .docid-room, z .docid-size)) (omega (arith, z .body-room, z .body-size)) (c .before .loop-test .left)
-    (c .next-of .ensures ∙ ap nextOf (l .inv .1 ∙ ap (λ (k : ℕ). leastOf (take k (l .docids))) q)) (l .inv .2 gs r)
+same-length-5 : tie.Need-same-length-5 Inv-loop μ-loop
+same-length-5 c = search needs
+
+returns-3 : tie.Need-returns-3 Inv-loop μ-loop
+returns-3 c =
+    let l = c .before .before .before .before .loop in
+    let a = c .before .before .before .before .before .before .before .before .before .before .before .before .before .before .before .before .before .before .args in
+    let f = l .inv .0 in
+    let q : l .from ≡ a .n = omega (arith, f .block, c .before .before .before .loop-test .left) in
+    λ gs are minima limit from hs hm.
+    let r : Ready (a .leaves .now) (a .docids .now) (a .bodies .now) (a .lasts .now) (a .masks .now) (a .follows .now) (a .n) (a .mins .now) (a .starts .now) (a .matched .now) (a .docid) gs =
+    record { cursors-are = are; minima = minima; limit = limit; from = from; start-room = hs; matched-room = hm } in
+    let p = l .inv .10 gs r in
+    subst (RowTaken (a .leaves .now) (l .docids) (l .bodies) (a .lasts .now) (a .masks .now) (a .follows .now) (a .n) (l .mins) (l .starts) (l .matched) (a .docid) gs) (sym (c .end-scan3 .ensures))
+    (scanned-end (c .before .next-of .result) r (f .docid-room) (f .body-room)
+    (c .before .next-of .ensures ∙ ap nextOf (c .before .before .lesser2 .ensures ∙ p .1 ∙ ap (λ (k : ℕ). leastOf (take k (l .docids))) q)) (p .0)
+    (subst (Scanned (a .leaves .now) (l .docids) (l .bodies) (a .lasts .now) (a .masks .now) (a .follows .now) (a .n) (l .starts) (l .matched) (a .docid) gs (l .scan)) q (p .2)))
 
 pub advance-spec : {M : Type 1} → statement M
 advance-spec =
@@ -239,43 +289,35 @@ advance-spec =
     (tie.spec
     Inv-loop
     μ-loop
-    has-room-requires
+    can-move-requires
+    end-scan-requires
     returns
+    has-room-requires
+    end-scan-requires-2
+    returns-2
     loop-holds
-    mul-at
-    slice-read-at
-    shared-slice-read-is-hidden
-    is-hidden-requires
-    lesser-requires
-    add-i
+    block-end-requires
+    mul-least
+    slice-read-least
+    gives-nothing-requires
+    over-other-requires
+    add-b
     loop-less
     loop-again
-    mul-starts
-    slice-read-starts
-    cast-starts
-    mul-starts-2
-    slice-write-starts
-    mul-matched
-    shared-slice-read-matched
-    mul-matched-2
-    slice-write-matched
-    hits-after-requires
-    mul-entry-after
-    slice-read-entry-after
-    mul-entry-after-2
-    shared-slice-read-entry-after
-    entry-after-requires
-    mul-docids
-    slice-write-docids
-    mul-bodies
-    slice-write-bodies
-    lesser-requires-2
-    add-i-2
+    take-block-requires
+    lesser-requires
+    mul-mins
+    slice-write-mins
+    join-requires
+    add-b-2
     loop-less-2
     loop-again-2
+    lesser-requires-2
     next-of-requires
+    end-scan-requires-3
     same-length
     same-length-2
     same-length-3
     same-length-4
-    returns-2)
+    same-length-5
+    returns-3)

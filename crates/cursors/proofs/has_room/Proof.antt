@@ -18,17 +18,7 @@ returns-4 : tie.Need-returns-4
 returns-4 c = (false-not-true, λ h. absurd (omega arith))
 
 returns-5 : tie.Need-returns-5
-returns-5 c = (false-not-true, λ h. absurd (omega arith))
-
-returns-6 : tie.Need-returns-6
-returns-6 c = (false-not-true, λ h. absurd (omega arith))
-
-returns-7 : tie.Need-returns-7
-returns-7 c = (false-not-true, λ h. absurd (omega arith))
-
-returns-8 : tie.Need-returns-8
-returns-8 c = (λ _. omega arith, λ _. refl)
+returns-5 c = (λ _. omega arith, λ _. refl)
 
 pub has-room-spec : {M : Type 1} → statement M
-has-room-spec =
-    tie.close (tie.spec returns returns-2 returns-3 returns-4 returns-5 returns-6 returns-7 returns-8)
+has-room-spec = tie.close (tie.spec returns returns-2 returns-3 returns-4 returns-5)

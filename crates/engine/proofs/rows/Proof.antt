@@ -11,16 +11,28 @@ use Rattle.engine.proofs.rows.Statement.{statement}
 use Rattle.engine.proofs.rows.Tie as tie
 
 abbrev Inv-loop : tie.InvT-loop
-Inv-loop leaves docids₀ bodies₀ lasts masks follows n room₀ words ties distances columns ops codes starts₀ matched₀ marks₀ spare₀ next₀ from₀ count₀ docids bodies room starts matched marks spare next from count = Going (record { words = words; ops = ops }) leaves docids₀ bodies₀ lasts masks follows n (length room₀) docids bodies starts matched marks spare room next from count
+Inv-loop query leaves docids₀ bodies₀ lasts masks follows n room₀ starts₀ matched₀ marks₀ spare₀ mins₀ needed next₀ from₀ count₀ docids bodies room starts matched marks spare mins next from count = Going query leaves docids₀ bodies₀ lasts masks follows n (length room₀) docids bodies mins starts matched marks spare room next from count
 
 abbrev μ-loop : tie.MeasureT-loop
-μ-loop leaves docids₀ bodies₀ lasts masks follows n room₀ words ties distances columns ops codes starts₀ matched₀ marks₀ spare₀ next₀ from₀ count₀ docids bodies room starts matched marks spare next from count = docidLimit - from
+μ-loop query leaves docids₀ bodies₀ lasts masks follows n room₀ starts₀ matched₀ marks₀ spare₀ mins₀ needed next₀ from₀ count₀ docids bodies room starts matched marks spare mins next from count = docidLimit - from
+
+slice-aggregate-needs : tie.Need-slice-aggregate-needs Inv-loop μ-loop
+slice-aggregate-needs c = search (needs, c .before .before .before .before .before .before .before .before .before .before .good)
+
+needs-requires : tie.Need-needs-requires Inv-loop μ-loop
+needs-requires c κs = search needs
+
+slice-aggregate-minima : tie.Need-slice-aggregate-minima Inv-loop μ-loop
+slice-aggregate-minima c = search needs
+
+minima-requires : tie.Need-minima-requires Inv-loop μ-loop
+minima-requires c κs = search needs
 
 least-requires : tie.Need-least-requires Inv-loop μ-loop
 least-requires c κs = search needs
 
 loop-holds : tie.Need-loop-holds Inv-loop μ-loop
-loop-holds c = going-start (c .least .ensures .1) (c .before .before .before .before .before .before .before .before .before .before .before .before .before .before .pre) refl refl refl refl
+loop-holds c = going-start (c .least .ensures .1) (c .before .before .before .minima .ensures) (c .before .before .before .before .before .before .before .before .before .before .before .before .before .before .before .before .before .pre) (c .before .before .before .minima .kept .1 .1 .0) refl refl refl refl
 
 enum-known-next : tie.Need-enum-known-next Inv-loop μ-loop
 enum-known-next c = search needs
@@ -64,46 +76,28 @@ same-length-9 c = search needs
 returns-3 : tie.Need-returns-3 Inv-loop μ-loop
 returns-3 c = going-past (c .before .before .before .before .before .loop .inv) _ (c .before .before .before .next .given .1) (c .if2 .taken)
 
-slice-aggregate-advance : tie.Need-slice-aggregate-advance Inv-loop μ-loop
-slice-aggregate-advance c = search needs
+slice-aggregate-take-row : tie.Need-slice-aggregate-take-row Inv-loop μ-loop
+slice-aggregate-take-row c = search needs
 
-slice-aggregate-advance-2 : tie.Need-slice-aggregate-advance-2 Inv-loop μ-loop
-slice-aggregate-advance-2 c = search needs
+slice-aggregate-take-row-2 : tie.Need-slice-aggregate-take-row-2 Inv-loop μ-loop
+slice-aggregate-take-row-2 c = search needs
 
-advance-requires : tie.Need-advance-requires Inv-loop μ-loop
-advance-requires c κs = search needs
+slice-aggregate-take-row-3 : tie.Need-slice-aggregate-take-row-3 Inv-loop μ-loop
+slice-aggregate-take-row-3 c = search needs
 
-slice-aggregate-holds : tie.Need-slice-aggregate-holds Inv-loop μ-loop
-slice-aggregate-holds c = search (needs, c .before .before .before .before .before .before .before .before .before .before .before .before .before .before .before .before .before .before .before .before .before .before .before .before .before .before .before .before .before .before .before .before .good)
+slice-aggregate-take-row-4 : tie.Need-slice-aggregate-take-row-4 Inv-loop μ-loop
+slice-aggregate-take-row-4 c = search needs
 
-slice-aggregate-holds-2 : tie.Need-slice-aggregate-holds-2 Inv-loop μ-loop
-slice-aggregate-holds-2 c = search (needs, c .before .before .before .before .before .before .before .before .before .before .before .before .before .before .before .before .before .before .before .before .before .before .before .before .before .before .before .before .before .before .before .before .before .good)
+slice-aggregate-take-row-5 : tie.Need-slice-aggregate-take-row-5 Inv-loop μ-loop
+slice-aggregate-take-row-5 c = search needs
 
-slice-aggregate-holds-3 : tie.Need-slice-aggregate-holds-3 Inv-loop μ-loop
-slice-aggregate-holds-3 c = search (needs, c .before .before .before .before .before .before .before .before .before .before .before .before .before .before .before .before .before .before .before .before .before .before .before .before .before .before .before .before .before .before .before .before .before .before .good)
-
-slice-aggregate-holds-4 : tie.Need-slice-aggregate-holds-4 Inv-loop μ-loop
-slice-aggregate-holds-4 c = search (needs, c .before .before .before .before .before .before .before .before .before .before .before .before .before .before .before .before .before .before .before .before .before .before .before .before .before .before .before .before .before .before .before .before .before .before .before .good)
-
-slice-aggregate-holds-5 : tie.Need-slice-aggregate-holds-5 Inv-loop μ-loop
-slice-aggregate-holds-5 c = search needs
-
-slice-aggregate-holds-6 : tie.Need-slice-aggregate-holds-6 Inv-loop μ-loop
-slice-aggregate-holds-6 c = search needs
-
-slice-aggregate-holds-7 : tie.Need-slice-aggregate-holds-7 Inv-loop μ-loop
-slice-aggregate-holds-7 c = search needs
-
-slice-aggregate-holds-8 : tie.Need-slice-aggregate-holds-8 Inv-loop μ-loop
-slice-aggregate-holds-8 c = search needs
-
-holds-requires : tie.Need-holds-requires Inv-loop μ-loop
-holds-requires c κs = search needs
+take-row-requires : tie.Need-take-row-requires Inv-loop μ-loop
+take-row-requires c κs = c .before .before .before .before .before .before .before .before .before .before .before .before .before .before .before .before .before .before .before .needs .ensures
 
 note-requires : tie.Need-note-requires Inv-loop μ-loop
 note-requires c κs =
-    let k = going-count (c .before .before .before .before .before .before .before .before .before .before .before .before .before .before .before .before .before .before .before .before .before .before .before .before .before .before .before .before .loop .inv) in
-    (omega arith, c .before .before .before .before .before .before .before .before .before .before .before .before .before .before .before .before .before .before .before .before .before .before .before .if2 .left)
+    let k = going-count (c .before .before .before .before .before .before .before .before .before .before .before .before .before .before .before .before .before .before .before .before .before .before .before .loop .inv) in
+    (omega arith, c .before .before .before .before .before .before .before .before .before .before .before .before .before .before .before .before .before .before .if2 .left)
 
 add-from : tie.Need-add-from Inv-loop μ-loop
 add-from c = search needs
@@ -113,10 +107,9 @@ loop-less c = search needs
 
 loop-again : tie.Need-loop-again Inv-loop μ-loop
 loop-again c =
-    let k = c .before .before .before .before .before .before .before .before .before .before .before .before .before .before .before .before .before .before .before .before .advance .kept in
-    let m = c .before .before .before .before .before .holds .kept in
-    going-on (c .before .before .before .before .before .before .before .before .before .before .before .before .before .before .before .before .before .before .before .before .before .before .before .before .before .before .before .before .before .before .loop .inv) _ (c .before .before .before .before .before .before .before .before .before .before .before .before .before .before .before .before .before .before .before .before .before .before .before .before .before .before .before .before .next .given .1) (c .before .before .before .before .before .before .before .before .before .before .before .before .before .before .before .before .before .before .before .before .before .before .before .before .before .before .if1 .left) (c .before .before .before .before .before .before .before .before .before .before .before .before .before .before .before .before .before .before .before .before .before .before .before .before .before .if2 .left) (c .before .before .before .before .before .before .before .before .before .before .before .before .before .before .before .before .before .before .before .before .advance .result) (c .before .before .before .before .before .holds .result) (c .before .before .before .before .before .before .before .before .before .before .before .before .before .before .before .before .before .before .before .before .advance .ensures) (c .before .before .before .before .before .holds .ensures)
-    (k .1 .1 .0) (k .1 .1 .1 .0) (k .1 .1 .1 .1 .1 .1 .1 .1 .0) (k .1 .1 .1 .1 .1 .1 .1 .1 .1 .0) (m .1 .1 .1 .1 .1 .1 .1 .1 .1 .1 .0) (m .1 .1 .1 .1 .1 .1 .1 .1 .1 .1 .1 .0)
+    let k = c .before .before .before .before .before .before .before .before .before .before .before .before .take-row .kept in
+    going-on (c .before .before .before .before .before .before .before .before .before .before .before .before .before .before .before .before .before .before .before .before .before .before .before .before .before .loop .inv) _ (c .before .before .before .before .before .before .before .before .before .before .before .before .before .before .before .before .before .before .before .before .before .before .before .next .given .1) (c .before .before .before .before .before .before .before .before .before .before .before .before .before .before .before .before .before .before .before .before .before .if1 .left) (c .before .before .before .before .before .before .before .before .before .before .before .before .before .before .before .before .before .before .before .before .if2 .left) {docids₁ = c .before .before .before .before .before .before .before .before .before .before .before .before .take-row .last .1 .1 .1 .1 .0} {bodies₁ = c .before .before .before .before .before .before .before .before .before .before .before .before .take-row .last .1 .1 .1 .1 .1 .0} {mins₁ = c .before .before .before .before .before .before .before .before .before .before .before .before .take-row .last .1 .1 .1 .1 .1 .1 .1 .1 .1 .1 .0} (c .before .before .before .before .before .before .before .before .before .before .before .before .take-row .result) (c .before .before .before .before .before .before .before .before .before .before .before .before .take-row .ensures)
+    (k .1 .1 .1 .1 .0) (k .1 .1 .1 .1 .1 .0) (k .1 .1 .1 .1 .1 .1 .1 .1 .1 .1 .0) (k .1 .1 .1 .1 .1 .1 .1 .1 .1 .1 .1 .0) (k .1 .1 .1 .1 .1 .1 .1 .1 .1 .1 .1 .1 .0) (k .1 .1 .1 .1 .1 .1 .1 .1 .1 .1 .1 .1 .1 .0) (k .1 .1 .1 .1 .1 .1 .1 .1 .1 .1 .1 .1 .1 .1 .0)
     (c .before .note .ensures)
 
 pub rows-spec : {M : Type 1} → statement M
@@ -125,6 +118,10 @@ rows-spec =
     (tie.spec
     Inv-loop
     μ-loop
+    slice-aggregate-needs
+    needs-requires
+    slice-aggregate-minima
+    minima-requires
     least-requires
     loop-holds
     enum-known-next
@@ -141,18 +138,12 @@ rows-spec =
     same-length-8
     same-length-9
     returns-3
-    slice-aggregate-advance
-    slice-aggregate-advance-2
-    advance-requires
-    slice-aggregate-holds
-    slice-aggregate-holds-2
-    slice-aggregate-holds-3
-    slice-aggregate-holds-4
-    slice-aggregate-holds-5
-    slice-aggregate-holds-6
-    slice-aggregate-holds-7
-    slice-aggregate-holds-8
-    holds-requires
+    slice-aggregate-take-row
+    slice-aggregate-take-row-2
+    slice-aggregate-take-row-3
+    slice-aggregate-take-row-4
+    slice-aggregate-take-row-5
+    take-row-requires
     note-requires
     add-from
     loop-less

@@ -1,0 +1,57 @@
+-- Going on behind a row: the cursors stay, or the only one that stands before the others passes over rows that lack a word.
+use Prim.Native.Nat.{ℕ, _≤_, _<_}
+use native.Mathlib.Omega.{arith}
+use mathlib.Core.Path.{_≡_, refl}
+use mathlib.Core.List.{List}
+use lib.ListN.{getD}
+use lib.Bits.{bitAnd}
+use Rattle.cursors.specs.Groups.{Group, NextIs}
+use Rattle.cursors.specs.Arrays.{finished, CursorsAre, MinimaAre, Passed}
+use Rattle.cursors.specs.declared.Next.{Next}
+use Rattle.cursors.specs.declared.Taken.{Taken}
+use Rattle.engine.specs.Rows.{Lone, WentOn}
+use Rattle.engine.proofs.Reaching.{next-from}
+
+-- what `cursors::pass` promises
+abbrev Passes : (i rest : ℕ) (leaves docids bodies lasts : List ℕ) (n : ℕ) (mins docids₁ bodies₁ mins₁ : List ℕ) → Next → Type 0
+Passes i rest leaves docids bodies lasts n mins docids₁ bodies₁ mins₁ r =
+    (masks follows : List ℕ) (groups : List Group)
+    → CursorsAre leaves docids bodies lasts masks follows n groups
+    → MinimaAre docids n mins
+    → i < n
+    → rest ≤ finished
+    → ((k : ℕ) → k < n → (k ≡ i → ⊥) → rest ≤ getD docids k 0)
+    → Passed leaves docids₁ bodies₁ lasts masks follows n mins₁ i rest groups r
+
+module _ {leaves docids bodies lasts masks : List ℕ} {n : ℕ} {mins : List ℕ} {needed : ℕ} where
+  pub stays : (row : Taken) (follows : List ℕ) (groups : List Group) → CursorsAre leaves docids bodies lasts masks follows n groups → MinimaAre docids n mins → NextIs groups (row .next) → Lone docids n row
+      → WentOn leaves docids bodies lasts masks follows n mins needed groups (row .next)
+  stays row follows groups c m e l =
+      record {
+        left = groups;
+        cursors-are = c;
+        minima = m;
+        next-is = e;
+        since = 0;
+        reached = λ d q. omega arith;
+        same = λ d h. refl;
+        lacking = λ d h. absurd (omega arith);
+      }
+
+  pub passes : (row : Taken) {docids₁ bodies₁ mins₁ : List ℕ} {next : Next} → row .taken ≡ 1 → row .rest ≤ finished → (bitAnd (getD masks (row .last) 0) needed ≡ needed → ⊥)
+      → Passes (row .last) (row .rest) leaves docids bodies lasts n mins docids₁ bodies₁ mins₁ next
+      → (follows : List ℕ) (groups : List Group) → CursorsAre leaves docids bodies lasts masks follows n groups → MinimaAre docids n mins → NextIs groups (row .next) → Lone docids n row
+      → WentOn leaves docids₁ bodies₁ lasts masks follows n mins₁ needed groups next
+  passes row {next = next} one small lacks pass follows groups c m e lone =
+      let l = lone one in
+      let p = pass masks follows groups c m (l .0) small (l .1) in
+      record {
+        left = p .left;
+        cursors-are = p .cursors-are;
+        minima = p .minima;
+        next-is = p .next-is;
+        since = row .rest;
+        reached = next-from (row .rest) (p .left) next (p .reached) (p .next-is);
+        same = p .later;
+        lacking = λ d h. record { mask = getD masks (row .last) 0; lacks = lacks; all = p .earlier d h };
+      }
