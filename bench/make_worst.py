@@ -70,6 +70,11 @@ def many_hits(count):
     return rows + [term(b"b", [(1, list(range(3 * count)))])]
 
 
+def woven(words, count):
+    """In one row, so many words in turn, `count` positions in all."""
+    return [term(b"a" + w, [(1, list(range(k, max(count, words), words)))]) for k, w in enumerate(numbered(words))]
+
+
 def inputs():
     one = fitted(lambda n: [term(b"a", [(1, list(range(n)))])])
     yield "one-word", one, '"' + " ".join(["a"] * MAX_WORDS) + '"'
@@ -77,9 +82,10 @@ def inputs():
     apart = fitted(lambda n: [term(b"a", [(1, list(range(n)))]), term(b"b", [(1, list(range(n + 9000, 2 * n + 9000)))])])
     yield "two-words-apart", apart, chain(["a", "b"] * (MAX_WORDS // 2), 9999)
     yield "two-words-far", apart, chain(["b", "a"] * (MAX_WORDS // 2), 0)
-    turns = fitted(lambda n: [term(b"a", [(1, list(range(0, 2 * n, 2)))]), term(b"aa", [(1, list(range(1, 2 * n, 2)))])])
-    yield "two-index-words", turns, chain(["a*"] * MAX_WORDS, 0)
-    yield "two-index-words-phrase", turns, '"' + " ".join(["a*"] * MAX_WORDS) + '"'
+    for words in (2, 120):
+        turns = fitted(lambda n: woven(words, n))
+        yield "%d-words-in-turn" % words, turns, chain(["a*"] * MAX_WORDS, 0)
+        yield "%d-words-in-turn-phrase" % words, turns, '"' + " ".join(["a*"] * MAX_WORDS) + '"'
     hits = fitted(many_hits)
     yield "many-hits", hits, chain(["a*", "b"] * (MAX_WORDS // 2), 0)
     yield "many-hits-phrase", hits, '"b ' + " ".join(["a*"] * (MAX_WORDS - 1)) + '"'

@@ -65,7 +65,7 @@ bitWords = 1024
 
 -- the bits, and behind them room for some positions
 abbrev pub markWords : ℕ
-markWords = 1536
+markWords = 2048
 
 -- the hits are the whole row, and their positions fit the marks
 pub record RowFits (leaves starts masks : List ℕ) (hits : List Hit) : Type 0 where

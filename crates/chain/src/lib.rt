@@ -24,7 +24,7 @@ pub const MAX_CANDIDATES: usize = 65536;
 const BIT_WORDS: usize = 1024;
 
 // The number of words of the rooms: the bits, and behind them the keys.
-pub const MARK_WORDS: usize = 1536;
+pub const MARK_WORDS: usize = 2048;
 
 // The bits of a word.
 const WORD_BITS: usize = 64;

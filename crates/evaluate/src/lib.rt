@@ -100,7 +100,7 @@ fn run(
 // Whether a query holds in a row. The query is given by the arrays of its compiled form: how each of its `count` words is tied
 // to the one before, the distance at NEAR, the columns that the word may stand in, and its `len` codes in postfix order. The
 // row is given by where the body of each of its `hits` hits begins in the leaves, and which of the query's words the hit
-// matches. `marks` and `spare` are room to work in, 1,024 words each.
+// matches. `marks` and `spare` are room to work in, of `chain::MARK_WORDS` words each.
 pub fn holds(
     ties: &[u8],
     distances: &[u16],
