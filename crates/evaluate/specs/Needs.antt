@@ -4,10 +4,10 @@ use Prim.Native.Nat.{ℕ, _-_, _^_, _<_}
 use mathlib.Core.Path.{_≡_}
 use mathlib.Core.Bool.{Bool, true}
 use mathlib.Core.List.{List, [], _∷_}
-use lib.ListN.{length}
-use lib.Dec.{leb}
-use Rattle.common.specs.Pick.{both}
-use Rattle.lexer.specs.Token.{Node, allows}
+use lib.ListN.{length, take}
+use lib.Dec.{leb, ltb}
+use Rattle.common.specs.Pick.{pick, both}
+use Rattle.lexer.specs.Token.{Node, maxWords, allows}
 use Rattle.query.specs.Tree.{AND, Tree, treeNodes, opCode, compile}
 use Rattle.meaning.specs.Satisfies.{Live, Standing, StandsAt, Satisfies}
 use Rattle.chain.specs.Chains.{wordAt}
@@ -49,3 +49,8 @@ conjunctive (c ∷ cs) = both (leb c (opCode AND)) (conjunctive cs)
 -- the set of the first words
 abbrev pub firstWords : ℕ → ℕ
 firstWords count = 2 ^ count - 1
+
+-- all words, or none: where there is an OR or a NOT, and where the arguments are no query's
+abbrev pub needsOf : List ℕ → ℕ → ℕ → ℕ
+needsOf codes len count =
+    pick (ltb (length codes) len) 0 (pick (ltb maxWords count) 0 (pick (conjunctive (take len codes)) (firstWords count) 0))

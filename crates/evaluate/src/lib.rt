@@ -3,7 +3,7 @@ ghost use mathlib.Core.Path.{_≡_};
 ghost use Prim.Native.Nat.{_≤_};
 ghost use Rattle.lexer.specs.Token.{maxWords};
 ghost use Rattle.evaluate.specs.Evaluate.{Decides, Runs, pushed, combined, applied, topOf};
-ghost use Rattle.evaluate.specs.Needs.{conjunctive, firstWords, Needed};
+ghost use Rattle.evaluate.specs.Needs.{conjunctive, firstWords, needsOf, Needed};
 
 // The codes of a compiled query. What is none of them is taken as NOT.
 const CODE_CHAIN: u8 = 0;
@@ -173,7 +173,8 @@ fn first_words(count: usize) -> u16
 // The set of words that every row which satisfies the query has: all of its `count` words where its `len` codes have no OR
 // and no NOT, else none.
 pub fn needs(codes: &[u8], len: usize, count: usize) -> u16
-    ensures { λ r. ⌜ Needed (now (codes .entry)) len count r ⌝ }
+    ensures reader { λ r. ⌜ r ≡ needsOf (now (codes .entry)) len count ⌝ }
+    ensures content { λ r. ⌜ Needed (now (codes .entry)) len count r ⌝ }
 {
     if codes.len() < len {
         return 0;

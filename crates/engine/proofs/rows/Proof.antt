@@ -92,7 +92,7 @@ slice-aggregate-take-row-5 : tie.Need-slice-aggregate-take-row-5 Inv-loop μ-loo
 slice-aggregate-take-row-5 c = search needs
 
 take-row-requires : tie.Need-take-row-requires Inv-loop μ-loop
-take-row-requires c κs = c .before .before .before .before .before .before .before .before .before .before .before .before .before .before .before .before .before .before .before .needs .ensures
+take-row-requires c κs = c .before .before .before .before .before .before .before .before .before .before .before .before .before .before .before .before .before .before .before .needs .ensures .1
 
 note-requires : tie.Need-note-requires Inv-loop μ-loop
 note-requires c κs =
