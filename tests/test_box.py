@@ -202,6 +202,40 @@ def large(tally, box):
                     tally.check("search in %d bytes" % total, box.search(*asked), reference.search(*asked))
 
 
+def long_leaf(rng):
+    """A few rows with thousands of positions, up to the largest, of index words that begin alike."""
+    words = sorted(rng.sample([b"a", b"aa", b"ab", b"b", b"ba"] + [b"a%d" % i for i in range(10, 60)], rng.choice((2, 4, 40))))
+    first = rng.choice((0, 0, 2**31 - 20000))
+    lists = {word: [] for word in words}
+    for docid in sorted(rng.sample(DOCIDS, rng.randrange(1, 4))):
+        for word in words:
+            places = sorted(rng.sample(range(first, first + 20000, rng.choice((1, 1, 3))), rng.randrange(1, 9000 // len(words))))
+            at = len(places) // rng.choice((1, 2))
+            lists[word].append((docid, [(column, part) for column, part in enumerate((places[:at], places[at:])) if part]))
+    leaf = reference.encode_leaf(sorted(lists.items()))
+    return leaf if len(leaf) <= 32768 else long_leaf(rng)
+
+
+def long_query(rng):
+    """Chains and phrases of up to 16 words, near and far."""
+    words = [rng.choice((b"a", b"b", b"a*", b"a*", b"b*", b"aa", b"a1*", b"node:a*")) for _ in range(rng.randrange(2, 17))]
+    if rng.randrange(3) == 0:
+        return b'"' + b" ".join(word.split(b":")[-1] for word in words[:rng.randrange(2, 5)]) + b'"'
+    return words[0] + b"".join(rng.choice((b" NEAR/0 ", b" NEAR/1 ", b" NEAR/40 ", b" NEAR/9999 ", b" ")) + word for word in words[1:])
+
+
+def long_rows(tally, box, rng):
+    """Rows in which a word has more positions than are held at a time, in one leaf and in two."""
+    found = 0
+    for _ in range(200):
+        leaves = [long_leaf(rng) for _ in range(rng.randrange(1, 3))]
+        asked = *joined(NAMES), *joined(leaves), long_query(rng), rng.choice((0, 1, 8))
+        answer = box.search(*asked)
+        found += answer[1]
+        tally.check("search in long rows", answer, reference.search(*asked))
+    tally.check("long rows found", found > 50, True)
+
+
 MADE = {"check": check, "lookup": lookup, "deciding": deciding, "write": write, "search": search}
 SECOND = {
     "check": reference.check_leaf, "lookup": reference.lookup, "deciding": reference.deciding, "write": reference.write_leaf,
@@ -232,6 +266,7 @@ def main(words):
     box, tally = Box(), Tally()
     counts = {name: collections.Counter() for name in MADE}
     large(tally, box)
+    long_rows(tally, box, random.Random(seed))
     for i in range(calls):
         if i % 20000 == 0:
             pool = pools(rng)
