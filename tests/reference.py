@@ -2,29 +2,30 @@
 
 It is written from document 01, "Build specification and rules", alone, in the
 order of that document, and gives the expected answers for comparison.  It aims
-at being plain rather than fast.  Refusals are answers, never exceptions.
+at being plain rather than fast.  Refusals are answers, never exceptions.  What
+the tools need too (the readers of numbers, lists and leaves) is in
+tools/leaf_format.py.
 """
 
 from bisect import bisect_left
 
+import paths  # noqa: F401
+import leaf_format
+from leaf_format import (
+    MAX_LEAF_BYTES, MAX_LEAVES, MAX_NUMBER, MAX_WORD_BYTES,
+    columns_ok, fold, is_word_byte, live_entries, name_ok, next_run, shared_prefix, words,
+)
+
 MAX_QUERY_BYTES = 512
 MAX_QUERY_WORDS = 16
 MAX_DEPTH = 8
-MAX_LEAVES = 8
-MAX_LEAF_BYTES = 65536
-MAX_COLUMNS = 16
-MAX_NAME_BYTES = 32
-MAX_WORD_BYTES = 64
 MAX_DOCUMENT_BYTES = 4096
-MAX_NUMBER = 2**63 - 1
-MAX_POSITION = 2**31 - 1
 DEFAULT_DISTANCE = 10
 ANY_COLUMN = 65535
 
 ACCEPTED, SHAPE, QUERY, LEAF, ROOM, LONG_WORD = range(6)
 
 WHITE_SPACE = b" \t\n\x0b\x0c\r"
-NAME_BYTES = b"ABCDEFGHIJKLMNOPQRSTUVWXYZabcdefghijklmnopqrstuvwxyz0123456789_"
 PROGRAM_COLUMNS = [b"node", b"sent", b"outcome"]
 PROGRAM_ROOM = 4096
 
@@ -49,14 +50,6 @@ def cut(s, ends):
     return parts
 
 
-def name_ok(name):
-    """Whether one column name has 1 to 32 letters, digits or underscores.
-
-    Document 01, "How things are lent", row "Columns".
-    """
-    return 1 <= len(name) <= MAX_NAME_BYTES and all(b in NAME_BYTES for b in name)
-
-
 def names_ok(s, ends):
     """Whether the lent column names have the right shape.
 
@@ -68,14 +61,6 @@ def names_ok(s, ends):
     if not all(name_ok(name) for name in names):
         return False
     return len({name.lower() for name in names}) == len(names)
-
-
-def columns_ok(columns):
-    """Whether a column count is 1 to 16.
-
-    Document 01, "How things are lent", row "Columns".
-    """
-    return 1 <= columns <= MAX_COLUMNS
 
 
 def column_of(names, name):
@@ -116,22 +101,20 @@ def varint_size(v):
     return None if encoded is None else len(encoded)
 
 
+def or_none(read, *arguments):
+    """What a reader of tools/leaf_format.py gives, or None where a rule is broken."""
+    try:
+        return read(*arguments)
+    except leaf_format.Broken:
+        return None
+
+
 def read_varint(s, at):
     """The number stored at `at` and where it ends, or None when there is none.
 
-    Document 01, "Stored numbers": one to nine bytes, shortest form only.
+    Document 01, "Stored numbers".
     """
-    value = 0
-    for count in range(9):
-        if not 0 <= at + count < len(s):
-            return None
-        byte = s[at + count]
-        value += (byte % 128) << (7 * count)
-        if byte < 128:
-            if byte == 0 and count > 0:
-                return None
-            return value, at + count + 1
-    return None
+    return or_none(leaf_format.read_number, s, at)
 
 
 def write_varint(room, v):
@@ -150,76 +133,12 @@ def write_varint(room, v):
 # A posting list (doclist)
 
 
-def read_columns(s, at, columns):
-    """The columns of one entry from `at` to its closing 0, and where it ends.
-
-    Document 01, "A posting list"; None when a rule is broken.
-    """
-    found = []
-    column, positions = 0, []
-    while True:
-        number = read_varint(s, at)
-        if number is None:
-            return None
-        value, at = number
-        if value >= 2:
-            position = next_position(positions, value)
-            if position is None or column >= columns:
-                return None
-            positions.append(position)
-            continue
-        if positions:
-            found.append((column, positions))
-        elif column > 0:
-            return None
-        if value == 0:
-            return found, at
-        number = read_varint(s, at)
-        if number is None:
-            return None
-        announced, at = number
-        if not column < announced < columns:
-            return None
-        column, positions = announced, []
-
-
-def next_position(positions, stored):
-    """The position meant by a stored value after earlier ones of its column.
-
-    Document 01, "A posting list"; None when it does not rise or is too large.
-    """
-    step = stored - 2
-    if positions and step < 1:
-        return None
-    position = step + (positions[-1] if positions else 0)
-    return position if position <= MAX_POSITION else None
-
-
 def entry_spans(s, columns):
     """All entries of a doclist as (docid, columns, start, end), or None.
 
-    Document 01, "A posting list": one or more entries, nothing after.
+    Document 01, "A posting list".
     """
-    entries = []
-    at = 0
-    while at < len(s):
-        start = at
-        number = read_varint(s, at)
-        if number is None:
-            return None
-        docid, at = number
-        if entries:
-            if docid < 1:
-                return None
-            docid += entries[-1][0]
-        if docid > MAX_NUMBER:
-            return None
-        body = read_columns(s, at, columns)
-        if body is None:
-            return None
-        found, at = body
-        entries.append((docid, found, start, at))
-    return entries if entries else None
+    return or_none(leaf_format.read_entries, s, columns)
 
 
 def parse_doclist(s, columns):
@@ -257,82 +176,12 @@ def encode_doclist(entries):
 # A leaf
 
 
-def shared_prefix(one, other):
-    """The length of the longest prefix that two terms share.
-
-    Document 01, "A leaf".
-    """
-    length = 0
-    while length < len(one) and length < len(other) and one[length] == other[length]:
-        length += 1
-    return length
-
-
-def read_bytes(s, at):
-    """A length and as many bytes, as (bytes, next), or None.
-
-    Document 01, "A leaf".
-    """
-    number = read_varint(s, at)
-    if number is None:
-        return None
-    length, at = number
-    if at + length > len(s):
-        return None
-    return s[at:at + length], at + length
-
-
-def read_term(s, at, previous):
-    """The term at `at` and where it ends; `previous` is None for the first.
-
-    Document 01, "A leaf"; None when a rule is broken.
-    """
-    prefix = 0
-    if previous is not None:
-        number = read_varint(s, at)
-        if number is None:
-            return None
-        prefix, at = number
-        if prefix > len(previous):
-            return None
-    part = read_bytes(s, at)
-    if part is None:
-        return None
-    suffix, at = part
-    term = suffix if previous is None else previous[:prefix] + suffix
-    if len(suffix) < 1 or len(term) > MAX_WORD_BYTES:
-        return None
-    if previous is not None:
-        if not previous < term or shared_prefix(previous, term) != prefix:
-            return None
-    return term, at
-
-
 def parse_leaf(s, columns):
     """The terms of a leaf as (term, entries, list start, list end), or None.
 
     Document 01, "A leaf".
     """
-    number = read_varint(s, 0)
-    if number is None or number[0] != 0:
-        return None
-    at = number[1]
-    terms = []
-    previous = None
-    while at < len(s):
-        read = read_term(s, at, previous)
-        if read is None:
-            return None
-        previous, at = read
-        part = read_bytes(s, at)
-        if part is None:
-            return None
-        doclist, at = part
-        entries = parse_doclist(doclist, columns)
-        if entries is None:
-            return None
-        terms.append((previous, entries, at - len(doclist), at))
-    return terms if terms else None
+    return or_none(leaf_format.read_leaf, s, columns)
 
 
 def encode_leaf(terms):
@@ -371,43 +220,6 @@ def check_leaf(leaf, columns):
 # Words (tokens of "simple")
 
 
-def is_word_byte(byte):
-    """Whether a byte is an ASCII letter, a digit or 128 and up.
-
-    Document 01, "Words".
-    """
-    return (
-        ord("A") <= byte <= ord("Z")
-        or ord("a") <= byte <= ord("z")
-        or ord("0") <= byte <= ord("9")
-        or byte >= 128
-    )
-
-
-def fold(word):
-    """A word with A to Z turned into a to z, all else kept.
-
-    Document 01, "Words".
-    """
-    return bytes(b + 32 if ord("A") <= b <= ord("Z") else b for b in word)
-
-
-def next_run(text, at):
-    """The first run of word bytes from `at` on as (start, end), or None.
-
-    Document 01, "Words".
-    """
-    start = max(at, 0)
-    while start < len(text) and not is_word_byte(text[start]):
-        start += 1
-    if start >= len(text):
-        return None
-    end = start
-    while end < len(text) and is_word_byte(text[end]):
-        end += 1
-    return start, end
-
-
 def next_word(text, at):
     """The first run from `at` on, told apart by the 64 bytes of a word.
 
@@ -419,20 +231,6 @@ def next_word(text, at):
     start, end = run
     kind = "found" if end - start <= MAX_WORD_BYTES else "overlong"
     return kind, start, end
-
-
-def words(text):
-    """All words of a text as (start, end, folded bytes), of any length.
-
-    Document 01, "Words".
-    """
-    found = []
-    run = next_run(text, 0)
-    while run is not None:
-        start, end = run
-        found.append((start, end, fold(text[start:end])))
-        run = next_run(text, end)
-    return found
 
 
 # The writer
@@ -765,21 +563,6 @@ def canonical(tree):
 
 
 # When a row satisfies a query
-
-
-def live_entries(parsed_leaves):
-    """For each term and docid the columns of the entry in the newest leaf.
-
-    Document 01, "When a row satisfies a query"; a deletion has no columns.
-    """
-    live = {}
-    for terms in parsed_leaves:
-        for term, entries, _, _ in terms:
-            rows = live.setdefault(term, {})
-            for docid, found in entries:
-                if docid not in rows:
-                    rows[docid] = found
-    return live
 
 
 def word_places(live, word, star, column_set):
