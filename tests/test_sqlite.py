@@ -92,7 +92,7 @@ def known(tally, box, base):
     """Each known difference is one: it leaves the list once it is none."""
     for docid, text in ((1, "x"), (2, "y x")):
         base.execute("insert into t(docid, outcome) values (?, ?)", (docid, text))
-    asked = joined([b"node", b"sent", b"outcome"]) + joined(export_leaves.segments(base, "t"))
+    asked = joined([b"node", b"sent", b"outcome"]) + joined([leaf.data for leaf in export_leaves.segments(base, "t")])
     for query in differences.ONLY_SQLITE:
         tally.check("SQLite accepts %r" % query, match(base, query) is not None, True)
         tally.check("the box refuses %r" % query, box.search(*asked, query, 4), (2, 0, [0] * 4))
@@ -114,11 +114,11 @@ def main(words):
             path = os.path.join(folder, "t%d.db" % i)
             base = new_table(path)
             filled(rng, base)
-            names, leaves = export_leaves.export(path, "t")
+            export = export_leaves.export(path, "t")
             counts["tables"] += 1
-            counts["with several segments"] += len(leaves) > 1
+            counts["with several segments"] += len(export.leaves) > 1
             counts["with two levels"] += base.execute("select count(distinct level) from t_segdir").fetchone()[0] > 1
-            compare(rng, tally, counts, box, base, [name.encode() for name in names], leaves)
+            compare(rng, tally, counts, box, base, [name.encode() for name in export.names], [leaf.data for leaf in export.leaves])
             base.close()
             os.remove(path)
     print("SQLite %s: " % sqlite3.sqlite_version + ", ".join("%d %s" % (n, what) for what, n in counts.items()))

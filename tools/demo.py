@@ -13,6 +13,7 @@ import subprocess
 import sys
 import tempfile
 
+import export_folder
 import export_leaves
 import fts4box
 
@@ -23,7 +24,6 @@ QUERIES = (
     "outcome:reply NOT outcome:timeout", "reply", "timeout", "n12 reply", "(n12 OR n13) NOT late", '"no reply"', "no NEAR/1 timeout",
     "late NEAR/0 reply", "n1* late", "sent:t1* NOT n1*", "absent",
 )
-ROOM = 4096
 PROGRAM = os.path.join(fts4box.ROOT, "target", "bin", "fts4search")
 
 
@@ -58,9 +58,10 @@ def by_sqlite(base, query):
     return [row[0] for row in base.execute("select docid from probes where probes match ? order by docid", (query,))]
 
 
-def by_box(library, names, leaves, query):
-    number, beside, docids = fts4box.search(library, [name.encode() for name in names], leaves, query.encode(), ROOM)
-    return docids if number == 0 else "refused %d %d" % (number, beside)
+def by_box(library, export, query):
+    names, leaves = [name.encode() for name in export.names], [leaf.data for leaf in export.leaves]
+    number, second, docids = fts4box.search(library, names, leaves, query.encode())
+    return docids if number == 0 else "refused %d %d" % (number, second)
 
 
 def by_program(folder, query):
@@ -83,11 +84,11 @@ def made(database):
     return base
 
 
-def exported(database, folder, when):
-    names, leaves = export_leaves.export(database, "probes")
-    export_leaves.write_out(folder, names, leaves)
-    print("exported %s: %d leaves, %d bytes" % (when, len(leaves), sum(map(len, leaves))))
-    return names, leaves
+def exported(database, folder, when, prepared=False):
+    export_folder.write(folder, export_leaves.export(database, "probes", prepared))
+    export = export_folder.read(folder)
+    print("exported %s: %s" % (when, export_leaves.said_of(export)))
+    return export
 
 
 def compare(base, folder, boxed):
@@ -104,17 +105,15 @@ def compare(base, folder, boxed):
 
 def main():
     library = fts4box.load()
-    with tempfile.TemporaryDirectory() as folder:
-        database = os.path.join(folder, "bench.db")
+    with tempfile.TemporaryDirectory() as place:
+        database, folder = os.path.join(place, "bench.db"), os.path.join(place, "one")
         base = made(database)
-        names, leaves = exported(database, folder, "for the box")
-        boxed = [by_box(library, names, leaves, query) for query in QUERIES]
-        base.execute("insert into probes(probes) values ('optimize')")
-        _, (merged,) = exported(database, folder, "for the program, after SQLite's optimize")
-        different = compare(base, folder, boxed)
+        several = exported(database, os.path.join(place, "several"), "for the box")
+        one = exported(database, folder, "for the program", prepared=True)
+        different = compare(base, folder, [by_box(library, several, query) for query in QUERIES])
         base.close()
-        with open(os.path.join(folder, "leaf0.bin"), "wb") as f:
-            f.write(merged[:-1])
+        with open(os.path.join(folder, export_folder.PROGRAM_FILE), "wb") as f:
+            f.write(one.leaves[0].data[:-1])
         print("\nwith the leaf's last byte missing the program says: %s" % count(by_program(folder, QUERIES[0])))
     if different:
         print("%d of %d queries list DIFFERENT docids" % (different, len(QUERIES)))

@@ -1,156 +1,386 @@
 #!/usr/bin/env python3
-"""Exports the segment leaves of an FTS4 table, newest first, for the counting box.
+"""Exports the leaves of an FTS4 table for the counting box.
 
-    python3 tools/export_leaves.py DATABASE TABLE FOLDER
+    python3 tools/export_leaves.py [--prepare] [--replace] DATABASE TABLE FOLDER
 
-FOLDER gets `leaf0.bin`, `leaf1.bin` and so on, newest first, and `columns.txt` with a column name on each line. All is read
-in one transaction. What the box can't take is refused with a message that says what to do, and nothing is written.
+FOLDER gets the leaves and manifest.txt, whole or not at all (tools/export_folder.py says what is in it). The database is
+opened read-only and all is read in one transaction; what the box can't take, and what is not understood, is refused with a
+message that says why and what to do. Before anything is written every leaf is checked, and the leaves are held against SQLite's
+own answers and against the rows.
+
+--prepare   works on a copy in a temporary place: a page size of 65,536, vacuum, and `optimize` or `rebuild` there, so that the
+            index becomes one leaf; the copy's leaf is held against the database as it was
+--replace   an export that is in FOLDER goes; if the new one is refused it is set aside under another name
+
+Exit status: 0 exported, 2 not exportable, 3 another failure (wrong words, unwritable folder).
 """
+import argparse
 import contextlib
 import os
-import re
 import sqlite3
 import sys
+import tempfile
+import time
 import urllib.parse
 
-MAX_LEAVES = 8
-MAX_BYTES = 65536
-MAX_COLUMNS = 16
-NAME = re.compile(r"[A-Za-z0-9_]{1,32}\Z", re.ASCII)
+import export_folder
+import fts4_schema
+import leaf_format
+from export_folder import Export, Leaf, Refused
+
+EXPORTED, NOT_EXPORTABLE, FAILED = 0, 2, 3
+# SQLite keeps the segments of prefix indexes and of further languages on levels of their own, from here on
+FIRST_OTHER_LEVEL = 1024
+PAGE_SIZE = 65536
+ROWS_THAT_FIT = "some 3,200 rows of a test bench"
 
 
-class Refused(Exception):
-    """What stands in the way, and what to do about it."""
+def name_of(text):
+    """A name as SQL has it."""
+    return '"' + text.replace('"', '""') + '"'
 
 
-def quoted(name):
-    return '"' + name.replace('"', '""') + '"'
+def optimize_of(table):
+    return "run `insert into %s(%s) values ('optimize')`" % (name_of(table), name_of(table))
 
 
-def split_arguments(text):
-    """The arguments of `fts4(..)`, split at commas outside quotes and parentheses."""
-    parts, part, depth, quote = [], "", 0, ""
-    for c in text:
-        if quote:
-            quote = "" if c == quote else quote
-        elif c in "\"'`":
-            quote = c
-        elif c == "[":
-            quote = "]"
-        elif c == "(":
-            depth += 1
-        elif c == ")":
-            depth -= 1
-        elif c == "," and depth == 0:
-            parts.append(part.strip())
-            part = ""
-            continue
-        part += c
-    return parts + [part.strip()] if part.strip() else parts
+# The database
 
 
-def arguments(base, table):
-    row = base.execute("select name, sql from sqlite_master where type = 'table' and lower(name) = lower(?)", (table,)).fetchone()
+def connect(path, mode="ro"):
+    base = sqlite3.connect("file:%s?mode=%s" % (urllib.parse.quote(os.path.abspath(path)), mode), uri=True, isolation_level=None)
+    base.execute("pragma temp_store=memory")
+    return base
+
+
+@contextlib.contextmanager
+def reading(path):
+    """A connection that reads and changes nothing, in one transaction."""
+    try:
+        with contextlib.closing(connect(path)) as base:
+            base.execute("begin")
+            yield base
+    except sqlite3.Error as error:
+        raise Refused("the database %s can't be read: %s" % (path, error))
+
+
+def definition(base, table):
+    """The table's own name and what its text says."""
+    row = base.execute("select name, sql from main.sqlite_master where type = 'table' and name = ? collate nocase", (table,)).fetchone()
     if row is None:
-        raise Refused("there is no table %s in this database" % table)
-    match = re.search(r"using\s+fts4\s*(?:\((.*)\))?\s*\Z", row[1] or "", re.I | re.S)
-    if not match:
-        raise Refused("%s is no FTS4 table: create one with `using fts4(..)`" % table)
-    return row[0], split_arguments(match.group(1) or "")
+        raise Refused("there is no table %s in this database" % name_of(table))
+    try:
+        said = fts4_schema.read(row[1] or "")
+    except fts4_schema.NotUnderstood as error:
+        raise Refused("the table %s: %s" % (name_of(row[0]), error))
+    if said is None:
+        raise Refused("%s is no FTS4 table: create one with `using fts4(..)`" % name_of(row[0]))
+    return row[0], said
 
 
-def check_options(options):
-    """The table's options that change what stands in its leaves."""
-    for option in options:
-        name, has_value, value = option.partition("=")
-        name, value = name.strip().lower(), value.strip().strip("\"'").lower()
-        if name.split()[:1] == ["tokenize"] and not has_value:
-            name, value = "tokenize", " ".join(option.split()[1:]).lower()
-        if name == "tokenize" and value != "simple":
-            raise Refused("the tokenizer is %s: the box knows only simple; fill a table with `tokenize=simple`" % value)
-        if name == "prefix" and has_value:
-            raise Refused("the table has prefix indexes: fill a table without `prefix=`")
-        if name == "languageid" and has_value:
-            raise Refused("the table has language ids: fill a table without `languageid=`")
-        if name == "order" and value == "desc":
-            raise Refused("the posting lists go downward: fill a table without `order=desc`")
-
-
-def column_names(base, table):
-    """The table's columns without the hidden ones."""
-    rows = base.execute("pragma table_xinfo(%s)" % quoted(table)).fetchall()
-    names = [row[1] for row in rows if row[6] == 0]
-    if not 1 <= len(names) <= MAX_COLUMNS:
-        raise Refused("the table has %d columns: the box takes 1 to %d" % (len(names), MAX_COLUMNS))
+def column_names(base, table, said):
+    """The table's columns without the hidden ones, as SQLite has them; the text must name as many."""
+    names = [row[1] for row in base.execute("pragma main.table_xinfo(%s)" % name_of(table)) if row[6] == 0]
+    if len(names) != (said.columns or 1):
+        raise Refused("SQLite has %d columns for the table %s, and its text names %d" % (len(names), name_of(table), said.columns))
+    if not leaf_format.columns_ok(len(names)):
+        raise Refused("the table has %d columns: the box takes 1 to %d" % (len(names), leaf_format.MAX_COLUMNS))
     for name in names:
-        if not NAME.match(name):
-            raise Refused("the column %r has no name of 1 to 32 letters, digits or _: rename it" % name)
+        if not leaf_format.name_ok(name.encode("utf-8", "surrogatepass")):
+            raise Refused("the column %s has no name of 1 to 32 ASCII letters, digits or _: rename it" % name_of(name))
     return names
 
 
-def segments(base, table):
-    """The segments' leaves, newest first: lower level first, then higher index."""
-    rows = base.execute(
-        "select level, idx, root from %s order by level, idx desc" % quoted(table + "_segdir")
-    ).fetchall()
-    leaves = []
-    for level, index, root in rows:
-        if not root or root[0] != 0:
-            raise Refused(
-                "segment %d of level %d has interior nodes: set `pragma page_size=65536` before the table is filled, "
-                "so that a segment is one leaf" % (index, level)
-            )
-        leaves.append(bytes(root))
-    optimize = "run `insert into %s(%s) values ('optimize')`" % (table, table)
-    if len(leaves) > MAX_LEAVES:
-        raise Refused("the index has %d segments: the box takes %d; %s" % (len(leaves), MAX_LEAVES, optimize))
-    if sum(map(len, leaves)) > MAX_BYTES:
+# The segments
+
+
+def partly_merged(end_block):
+    """SQLite writes the size of a segment behind its end block, and writes it below zero while a merge goes on."""
+    return " -" in str(end_block)
+
+
+def segment_rows(base, table):
+    """The rows of the segment directory, newest first: lower level first, then higher index."""
+    shadow = table + "_segdir"
+    if base.execute("select count(*) from main.sqlite_master where type = 'table' and name = ?", (shadow,)).fetchone() != (1,):
+        raise Refused("the database has no table %s: the index is damaged" % name_of(shadow))
+    return base.execute("select level, idx, start_block, end_block, root from main.%s order by level, idx desc" % name_of(shadow)).fetchall()
+
+
+def one_leaf(table, level, index, start, _, root):
+    """The segment as one leaf, or why it is none."""
+    if not (type(level) is type(index) is type(start) is int and type(root) is bytes and 0 <= level and 0 <= index):
+        raise Refused("a row of %s is none that SQLite writes: the index is damaged" % name_of(table + "_segdir"))
+    segment = "the segment of level %d, index %d" % (level, index)
+    if level >= FIRST_OTHER_LEVEL:
+        raise Refused("%s belongs to a prefix index or to another language: the box knows neither" % segment)
+    if start != 0 or root[:1] != b"\0":
         raise Refused(
-            "the leaves have %d bytes together: the box takes %d; %s, or export fewer rows" % (sum(map(len, leaves)), MAX_BYTES, optimize)
+            "%s has interior nodes, since it does not fit on one page (too many rows in one transaction for the page size): give --prepare; or set "
+            "`pragma page_size=%d` before the table is filled, and write fewer rows in one transaction" % (segment, PAGE_SIZE)
+        )
+    return Leaf(level, index, start, root)
+
+
+def check_merged(table, rows):
+    for level, index, _, end_block, _ in rows:
+        if partly_merged(end_block):
+            raise Refused(
+                "the segment of level %s, index %s is partly merged (`merge=` or automerge has not come to its end): give --prepare, or %s"
+                % (level, index, optimize_of(table))
+            )
+
+
+def segments(base, table):
+    """The leaves of all segments, newest first, as many as the box takes."""
+    rows = segment_rows(base, table)
+    check_merged(table, rows)
+    leaves = [one_leaf(table, *row) for row in rows]
+    if len(leaves) > leaf_format.MAX_LEAVES:
+        raise Refused("the index has %d segments: the box takes %d; give --prepare, or %s" % (len(leaves), leaf_format.MAX_LEAVES, optimize_of(table)))
+    total = sum(len(leaf.data) for leaf in leaves)
+    if total > leaf_format.MAX_LEAF_BYTES:
+        raise Refused(
+            "the leaves have %d bytes together: the box takes %d, %s; give --prepare, or %s, or export fewer rows"
+            % (total, leaf_format.MAX_LEAF_BYTES, ROWS_THAT_FIT, optimize_of(table))
         )
     return leaves
 
 
-def export(database, table):
-    """The column names and the leaves, newest first."""
-    place = "file:%s?mode=ro" % urllib.parse.quote(database)
+def prepared_segments(base, table):
+    """Those of a prepared copy: where they are more than one leaf, there is too much."""
     try:
-        with contextlib.closing(sqlite3.connect(place, uri=True, isolation_level=None)) as base:
-            base.execute("begin")
-            name, options = arguments(base, table)
-            check_options(options)
-            return column_names(base, name), segments(base, name)
-    except sqlite3.Error as error:
-        raise Refused("the database %s can't be read: %s" % (database, error))
+        return segments(base, table)
+    except Refused:
+        size = base.execute("select sum(length(root)) from main.%s" % name_of(table + "_segdir")).fetchone()[0]
+        size += base.execute("select sum(length(block)) from main.%s" % name_of(table + "_segments")).fetchone()[0] or 0
+        raise Refused(
+            "the index has %d bytes even when it is prepared: the box takes %d, %s; export fewer rows" % (size, leaf_format.MAX_LEAF_BYTES, ROWS_THAT_FIT)
+        )
 
 
-def write_out(folder, names, leaves):
-    """The files; leaves of an earlier export don't stay behind them."""
-    os.makedirs(folder, exist_ok=True)
-    for i in range(MAX_LEAVES):
-        path = os.path.join(folder, "leaf%d.bin" % i)
-        if i < len(leaves):
-            with open(path, "wb") as f:
-                f.write(leaves[i])
-        elif os.path.exists(path):
-            os.remove(path)
-    with open(os.path.join(folder, "columns.txt"), "w", encoding="ascii") as f:
-        f.write("".join(name + "\n" for name in names))
+# Checked, and asked back
+
+
+def read_leaf(leaf, columns):
+    """The leaf's terms, or why the box would refuse it."""
+    try:
+        return leaf_format.read_leaf(leaf.data, columns)
+    except leaf_format.Broken as broken:
+        advice = "damaged: run `rebuild`, or take the database from a backup"
+        if broken.docid is not None and broken.docid < 0:
+            advice = "number the rows from 0 on"
+        elif broken.word is not None and len(broken.word) > leaf_format.MAX_WORD_BYTES:
+            advice = "change the rows that have this word"
+        raise Refused("the leaf of level %d, index %d breaks a rule: %s (%s)" % (leaf.level, leaf.index, broken, advice))
+
+
+def live_places(leaves, columns):
+    """For each word the rows in which it is live: docid, columns, positions."""
+    entries = leaf_format.live_entries([read_leaf(leaf, columns) for leaf in leaves])
+    live = {word: {docid: found for docid, found in rows.items() if found} for word, rows in entries.items()}
+    return {word: rows for word, rows in live.items() if rows}
+
+
+def as_text(base, word):
+    """A word as SQLite takes it: text, or its bytes where they are no UTF-8 (in a database that keeps its text so)."""
+    try:
+        return word.decode("utf-8")
+    except UnicodeDecodeError:
+        if base.execute("pragma main.encoding").fetchone() != (b"UTF-8",):
+            raise Refused("the word %s is no text in this database's encoding" % leaf_format.shown(word))
+        return word
+
+
+def matched(base, table, word):
+    """The docids of SQLite's own MATCH of a word, as a phrase."""
+    phrase = as_text(base, word)
+    phrase = b'"' + phrase + b'"' if isinstance(phrase, bytes) else '"' + phrase + '"'
+    rows = base.execute("select docid from main.%s where %s match cast(? as text)" % (name_of(table), name_of(table)), (phrase,))
+    return sorted(row[0] for row in rows)
+
+
+def counts(rows):
+    """By column, in how many rows a word is and how often."""
+    found = {}
+    for places in rows.values():
+        for column, positions in places:
+            documents, occurrences = found.get(column, (0, 0))
+            found[column] = documents + 1, occurrences + len(positions)
+    return found
+
+
+def counted(base, table):
+    """The same of every word, by SQLite's own table of terms."""
+    base.execute("create virtual table temp.fts4box_terms using fts4aux(main, %s)" % name_of(table))
+    found = {}
+    for word, column, documents, occurrences in base.execute("select term, col, documents, occurrences from temp.fts4box_terms where col <> '*'"):
+        found.setdefault(word, {})[column] = documents, occurrences
+    return found
+
+
+def texts(base, table, names, said):
+    """The rows' texts as FTS4 takes them: up to a NUL byte, none for a column that is not indexed."""
+    columns = ", ".join("null" if name.lower() in said.not_indexed else "cast(%s as text)" % name_of(name) for name in names)
+    for docid, *row in base.execute("select docid, %s from main.%s" % (columns, name_of(table))):
+        yield docid, [(text or b"").split(b"\0")[0] for text in row]
+
+
+def places_of_rows(base, table, names, said):
+    """For each word the rows in which it stands, by the rows' own texts."""
+    places = {}
+    for docid, row in texts(base, table, names, said):
+        for column, text in enumerate(row):
+            for position, (_, _, word) in enumerate(leaf_format.words(text)):
+                places.setdefault(word, {}).setdefault(docid, {}).setdefault(column, []).append(position)
+    return {word: {docid: sorted(found.items()) for docid, found in rows.items()} for word, rows in places.items()}
+
+
+def ask_back(base, table, names, said, live):
+    """Refuses unless SQLite's MATCH, its table of terms and the rows themselves say what the leaves say."""
+    base.text_factory = bytes
+    theirs, rows = counted(base, table), places_of_rows(base, table, names, said)
+    for word in sorted({*live, *theirs, *rows}):
+        ours = live.get(word, {})
+        shown = leaf_format.shown(word)
+        if counts(ours) != theirs.get(word, {}):
+            raise Refused("the word %s: SQLite's fts4aux counts %s by column, and the leaves %s" % (shown, theirs.get(word, {}), counts(ours)))
+        if rows.get(word, {}) != ours:
+            raise Refused(
+                "the word %s does not stand in the rows as the index says: the index is not that of the rows under the tokenizer simple; give --prepare, "
+                "or run `insert into %s(%s) values ('rebuild')`" % (shown, name_of(table), name_of(table))
+            )
+        if sorted(ours) != matched(base, table, word):
+            raise Refused("the word %s: SQLite's MATCH lists other rows than the leaves" % shown)
+
+
+# The export
+
+
+def now():
+    return time.strftime("%Y-%m-%dT%H:%M:%SZ", time.gmtime())
+
+
+def taken(base, asked, database, table, prepared="no"):
+    """The export of a table from one connection, held against what another says (the same, but for a prepared copy)."""
+    name, said = definition(base, table)
+    names = column_names(base, name, said)
+    leaves = segments(base, name) if prepared == "no" else prepared_segments(base, name)
+    ask_back(asked, name, names, said, live_places(leaves, len(names)))
+    return Export(os.path.basename(database), name, sqlite3.sqlite_version, now(), prepared, names, leaves)
+
+
+def copied(base, path):
+    with contextlib.closing(sqlite3.connect(path)) as copy:
+        base.backup(copy)
+
+
+def is_flat(path, table):
+    """Whether the index of a table is in leaves that the box takes."""
+    with reading(path) as base:
+        try:
+            segments(base, table)
+            return True
+        except Refused:
+            return False
+
+
+def command(path, table, words):
+    with contextlib.closing(connect(path, "rw")) as base:
+        base.execute("insert into %s(%s) values (?)" % (name_of(table), name_of(table)), (words,))
+
+
+def prepare(path, table):
+    """Makes the index of a copy one leaf, as far as it can be; says what was done."""
+    with contextlib.closing(connect(path, "rw")) as base:
+        base.execute("pragma journal_mode=delete")
+        base.execute("pragma page_size=%d" % PAGE_SIZE)
+        base.execute("vacuum")
+    # the size of FTS4's nodes comes from the page size at the time the table is opened: each command has its own connection
+    command(path, table, "optimize")
+    if is_flat(path, table):
+        return "optimize"
+    command(path, table, "rebuild")
+    if not is_flat(path, table):
+        command(path, table, "optimize")
+    return "rebuild"
+
+
+def exported(database, table):
+    with reading(database) as base:
+        return taken(base, base, database, table)
+
+
+def exported_prepared(database, table):
+    """The copy is made twice: one is prepared, the other stays as it was and is asked."""
+    with tempfile.TemporaryDirectory() as folder:
+        before, after = os.path.join(folder, "before.db"), os.path.join(folder, "after.db")
+        with reading(database) as base:
+            name, said = definition(base, table)
+            column_names(base, name, said)
+            copied(base, before)
+            copied(base, after)
+        try:
+            done = prepare(after, name)
+        except sqlite3.Error as error:
+            raise Refused("the copy of the database can't be prepared: %s" % error)
+        with reading(before) as asked, reading(after) as base:
+            return taken(base, asked, database, name, done)
+
+
+def export(database, table, prepared=False):
+    """The leaves of a table with all that the manifest says of them."""
+    return exported_prepared(database, table) if prepared else exported(database, table)
+
+
+def said_of(export):
+    done = "" if export.prepared == "no" else "; prepared in a copy: page size %d, vacuum, %s" % (PAGE_SIZE, export.prepared)
+    total = sum(len(leaf.data) for leaf in export.leaves)
+    return "%d leaves, %d bytes, columns %s%s" % (len(export.leaves), total, " ".join(export.names), done)
+
+
+class Words(argparse.ArgumentParser):
+    """The words of a command; what is wrong with them is no refusal of a table."""
+
+    def error(self, message):
+        self.print_usage(sys.stderr)
+        self.exit(FAILED, "%s\n" % message)
+
+
+def options(words):
+    parser = Words(description=__doc__, formatter_class=argparse.RawDescriptionHelpFormatter)
+    parser.add_argument("--prepare", action="store_true")
+    parser.add_argument("--replace", action="store_true")
+    for name in ("database", "table", "folder"):
+        parser.add_argument(name)
+    return parser.parse_intermixed_args(words)
+
+
+def to_folder(given):
+    """Exports, and writes. An old export does not stay where a new one was asked for and refused."""
+    export_folder.check_target(given.folder, given.replace)
+    try:
+        made = export(given.database, given.table, given.prepare)
+    except Refused as refused:
+        if not os.path.lexists(given.folder):
+            raise
+        raise Refused("%s\nthe earlier export is set aside as %s" % (refused, export_folder.set_aside(given.folder, now())))
+    export_folder.write(given.folder, made, given.replace)
+    return made
 
 
 def main(words):
-    if len(words) != 3:
-        print(__doc__.strip(), file=sys.stderr)
-        return 2
-    database, table, folder = words
+    given = options(words)
     try:
-        names, leaves = export(database, table)
+        print(said_of(to_folder(given)))
+        sys.stdout.flush()
     except Refused as refused:
         print("refused: %s" % refused, file=sys.stderr)
-        return 1
-    write_out(folder, names, leaves)
-    print("%d leaves, %d bytes, columns %s" % (len(leaves), sum(map(len, leaves)), " ".join(names)))
-    return 0
+        return NOT_EXPORTABLE
+    except OSError as error:
+        print("failed: %s" % error, file=sys.stderr)
+        return FAILED
+    return EXPORTED
 
 
 if __name__ == "__main__":

@@ -17,13 +17,31 @@ CALLS = {
     "fts4_write": [I64, PTR, SIZE, PTR, SIZE, PTR, SIZE, PTR],
     "fts4_search": [PTR, SIZE, PTR, SIZE, PTR, SIZE, PTR, SIZE, PTR, SIZE, PTR, SIZE, PTR],
 }
+# docids that any search has room in: an entry with a position takes at least 3 of the 65,536 bytes
+SEARCH_ROOM = 65536 // 3
+
+
+class NoLibrary(Exception):
+    """Why the library can't be had, and what to do about it."""
+
+
+def made_shared(archive, shared):
+    if not os.path.exists(archive):
+        raise NoLibrary("%s is missing: build it with `rt staticlib fts4box` (or `bash demo`)" % archive)
+    command = ["cc", "-shared", "-o", shared, "-Wl,--whole-archive", archive, "-Wl,--no-whole-archive"]
+    try:
+        done = subprocess.run(command, stdout=subprocess.PIPE, stderr=subprocess.STDOUT, text=True)
+    except OSError as error:
+        raise NoLibrary("a C compiler, `cc`, is needed to link the library: %s" % error)
+    if done.returncode != 0:
+        raise NoLibrary("%s can't be linked: build it anew with `rt staticlib fts4box`\n%s" % (archive, done.stdout))
 
 
 def load(archive=ARCHIVE):
     """The library with its calls declared as include/fts4box.h has them."""
     with tempfile.TemporaryDirectory() as folder:
         shared = os.path.join(folder, "libfts4box.so")
-        subprocess.run(["cc", "-shared", "-o", shared, "-Wl,--whole-archive", archive, "-Wl,--no-whole-archive"], check=True)
+        made_shared(archive, shared)
         library = ctypes.CDLL(shared)
     for name, arguments in CALLS.items():
         call = getattr(library, name)
@@ -31,10 +49,17 @@ def load(archive=ARCHIVE):
     return library
 
 
+def as_bytes(value):
+    """Text has no bytes until somebody chooses them: it is not taken."""
+    if not isinstance(value, (bytes, bytearray)):
+        raise TypeError("bytes are wanted, and %r is %s" % (value, type(value).__name__))
+    return bytes(value)
+
+
 def joined(parts):
     """Byte strings as they are lent: one slice and its ends."""
     ends, total = [], 0
-    for part in parts:
+    for part in map(as_bytes, parts):
         total += len(part)
         ends.append(total)
     return b"".join(parts), ends
@@ -46,8 +71,9 @@ def lent(parts):
     return data, len(data), (U32 * len(ends))(*ends), len(ends)
 
 
-def search(library, names, leaves, query, room_len):
-    """The answer's number, the number beside it, and the docids listed."""
+def search(library, names, leaves, query, room_len=SEARCH_ROOM):
+    """The answer's number, the number beside it, and the docids listed; names and leaves are lists of bytes, the query is bytes."""
     room, second = (I64 * room_len)(), U64()
-    number = library.fts4_search(*lent(names), *lent(leaves), query, len(query), room, room_len, ctypes.byref(second))
+    text = as_bytes(query)
+    number = library.fts4_search(*lent(names), *lent(leaves), text, len(text), room, room_len, ctypes.byref(second))
     return number, second.value, list(room[:second.value]) if number == 0 else []

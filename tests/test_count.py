@@ -1,0 +1,154 @@
+#!/usr/bin/env python3
+"""tools/count.py, status by status, beside SQLite's own counts; and that it notices a folder which is not as it says."""
+import json
+import os
+import shutil
+import sqlite3
+import subprocess
+import sys
+import tempfile
+
+import paths
+import export_folder
+import fts4box
+from tally import Tally
+
+TOOL = os.path.join(paths.TOOLS, "count.py")
+COUNTED, REFUSED, NOT_EXPORTABLE, FAILED = range(4)
+QUERIES = ["outcome:reply NOT outcome:timeout", "timeout", "n1* late", '"no reply"', "absent", "(n3 OR n4) reply", "ünode"]
+
+
+def filled(path, page_size=65536, rows=200):
+    base = sqlite3.connect(path, isolation_level=None)
+    base.execute("pragma page_size=%d" % page_size)
+    base.execute("create virtual table probes using fts4(node, sent, outcome)")
+    for i in range(4):
+        base.execute("begin")
+        for docid in range(i * rows // 4, (i + 1) * rows // 4):
+            outcome = ("reply", "reply late", "no reply, timeout", "ünode")[docid * 7 % 4]
+            base.execute("insert into probes(docid, node, sent, outcome) values (?, ?, ?, ?)", (docid, "n%d" % (docid % 12), "t%d" % docid, outcome))
+        base.execute("commit")
+    base.execute("delete from probes where docid % 9 = 4")
+    return base
+
+
+def ran(*words, **more):
+    done = subprocess.run([sys.executable, TOOL, *words], stdout=subprocess.PIPE, stderr=subprocess.PIPE, timeout=120, **more)
+    return done.returncode, done.stdout.decode(), done.stderr.decode()
+
+
+def lines(numbers):
+    return "".join("%d\n" % number for number in numbers)
+
+
+def counted(tally, base, path, folder):
+    """The count alone on the first line, then the docids if asked for; the same from an export."""
+    for query in QUERIES:
+        docids = [docid for (docid,) in base.execute("select docid from probes where probes match ? order by docid", (query,))]
+        for source in ([path, "probes"], [path, "PROBES", "--prepare"], ["--folder", folder]):
+            tally.check("count of %s" % query, ran(*source, query)[:2], (COUNTED, lines([len(docids)])))
+        tally.check("list of %s" % query, ran("--list", path, "probes", query)[:2], (COUNTED, lines([len(docids)] + docids)))
+        status, out, _ = ran("--json", "--list", "--folder", folder, query)
+        tally.check("object of %s" % query, (status, json.loads(out)), (COUNTED, {"answer": 0, "second": len(docids), "count": len(docids), "docids": docids}))
+    status, out, said = ran("--json", path, "probes", "timeout")
+    tally.check("no list unless asked for", sorted(json.loads(out)), ["answer", "count", "second"])
+    tally.check("what is counted is told apart", "table probes of bench.db" in said and "5 leaves" in said, True)
+
+
+def refused(tally, path):
+    """1, with both numbers and what they mean, and nothing on standard output but an object."""
+    for query in ("outcome:", "(reply", "nonesuch:x", "a " * 257, "x y" * 171, " ".join(["x"] * 17)):
+        status, out, said = ran(path, "probes", query)
+        tally.check("refusal of %s" % query, (status, out, "refused 2 0: the query is not in the language" in said), (REFUSED, "", True))
+        status, out, _ = ran("--json", path, "probes", query)
+        answer = json.loads(out)
+        tally.check("object of the refusal of %s" % query, (status, answer["answer"], answer["second"], "count" in answer), (REFUSED, 2, 0, False))
+
+
+def not_exportable(tally, place, path):
+    """2, and nothing on standard output."""
+    small = os.path.join(place, "small.db")
+    filled(small, 512).close()
+    for words, part in (
+        ([path, "nonesuch", "x"], "no table"), ([os.path.join(place, "none.db"), "probes", "x"], "can't be read"), ([small, "probes", "x"], "--prepare"),
+        (["--folder", place, "x"], "no export"), (["--folder", os.path.join(place, "none"), "x"], "no export"),
+    ):
+        for flags in ([], ["--json"], ["--list"]):
+            status, out, said = ran(*flags, *words)
+            tally.check("%s: %s" % (words, said), (status, out, part in said), (NOT_EXPORTABLE, "", True))
+    tally.check("prepared", ran("--prepare", small, "probes", "late")[0], COUNTED)
+
+
+def failed(tally, path, folder):
+    """3: wrong words, output that can't be written, no library."""
+    for words in ([], [path], [path, "probes"], [path, "probes", "x", "y"], ["--folder", folder], ["--folder", folder, path, "x"], ["--prepare", "--folder", folder, "x"],
+                  ["--nonesuch", path, "probes", "x"]):
+        tally.check("words %s" % words, ran(*words)[:2], (FAILED, ""))
+    with open("/dev/full", "wb") as full:
+        for flags in ([], ["--list"], ["--json"]):
+            done = subprocess.run([sys.executable, TOOL, *flags, path, "probes", "reply"], stdout=full, stderr=subprocess.PIPE)
+            tally.check("a full disk: %s" % done.stderr, done.returncode, FAILED)
+    tally.check("no output at all", subprocess.run(["sh", "-c", 'exec "$@" >&-', "sh", sys.executable, TOOL, path, "probes", "reply"], stderr=subprocess.DEVNULL).returncode, FAILED)
+    with tempfile.TemporaryDirectory() as copy:
+        shutil.copytree(paths.TOOLS, os.path.join(copy, "tools"), ignore=shutil.ignore_patterns("__pycache__"))
+        done = subprocess.run([sys.executable, os.path.join(copy, "tools", "count.py"), path, "probes", "reply"], stdout=subprocess.PIPE, stderr=subprocess.PIPE, text=True)
+        tally.check("no library: %s" % done.stderr, (done.returncode, done.stdout, "rt staticlib fts4box" in done.stderr), (FAILED, "", True))
+        tally.check("no compiler", ran(path, "probes", "reply", env={**os.environ, "PATH": copy})[0], FAILED)
+
+
+def damaged(tally, place, folder):
+    """A byte changed, a leaf removed, a leaf renumbered, a column's name changed: no count."""
+    leaf = sorted(name for name in os.listdir(folder) if name.endswith(".leaf"))
+    for what in ("byte", "removed", "renumbered", "column"):
+        other = os.path.join(place, what)
+        shutil.copytree(folder, other)
+        first, manifest = os.path.join(other, leaf[0]), os.path.join(other, "manifest.txt")
+        with open(first, "rb") as f:
+            data = f.read()
+        if what == "byte":
+            with open(first, "wb") as f:
+                f.write(data[:-2] + bytes([data[-2] ^ 1]) + data[-1:])
+        elif what == "removed":
+            os.remove(first)
+        elif what == "renumbered":
+            os.replace(os.path.join(other, leaf[1]), first)
+        else:
+            with open(manifest, encoding="ascii") as f:
+                text = f.read()
+            with open(manifest, "w", encoding="ascii") as f:
+                f.write(text.replace("column sent", "column went"))
+        status, out, said = ran("--folder", other, "reply")
+        tally.check("%s: %s" % (what, said), (status, out), (NOT_EXPORTABLE, ""))
+
+
+def python_calls(tally):
+    """Text is not taken where bytes are wanted."""
+    library = fts4box.load()
+    for names, leaves, query in ((["node"], [], b"x"), ([b"node"], ["x"], b"x"), ([b"node"], [], "x"), ([b"node"], [None], b"x")):
+        try:
+            fts4box.search(library, names, leaves, query)
+            tally.fail("text is taken for bytes: %r" % ((names, leaves, query),))
+        except TypeError as error:
+            tally.check("what is said", "bytes are wanted" in str(error), True)
+    tally.check("bytes are taken", fts4box.search(library, [b"node"], [], b"x"), (0, 0, []))
+
+
+def main():
+    tally = Tally()
+    with tempfile.TemporaryDirectory() as place:
+        path, folder = os.path.join(place, "bench.db"), os.path.join(place, "export")
+        base = filled(path)
+        subprocess.run([sys.executable, os.path.join(paths.TOOLS, "export_leaves.py"), path, "probes", folder], check=True, stdout=subprocess.DEVNULL)
+        tally.check("several leaves", len(export_folder.read(folder).leaves), 5)
+        counted(tally, base, path, folder)
+        refused(tally, path)
+        not_exportable(tally, place, path)
+        failed(tally, path, folder)
+        damaged(tally, place, folder)
+        base.close()
+    python_calls(tally)
+    return tally.finish()
+
+
+if __name__ == "__main__":
+    sys.exit(main())
