@@ -4,6 +4,9 @@
  * bytes, any lengths and any counts: what breaks a rule is refused by its own number, and input is never changed. What each
  * call answers is proved; docs/GUARANTEES.md says what exactly, and what is assumed.
  *
+ * docs/REFERENCE.md has all that a caller needs beside this: the layouts, the query language, what earns each answer, and the
+ * differences from SQLite.
+ *
  * Lending. A slice is a pointer and a length, counted in elements; NULL goes with length 0. Several byte strings are lent as
  * one slice with a list of 32-bit ends: the ends never fall, none passes the slice's length, and the last equals it; an
  * empty list goes only with an empty slice. Leaves come newest first.
@@ -29,6 +32,25 @@
 #ifdef __cplusplus
 extern "C" {
 #endif
+
+/* A change of a signature or of what a call answers raises the version. The number is 100 times its first part plus the second. */
+#define FTS4BOX_VERSION "1.0"
+#define FTS4BOX_VERSION_NUMBER 100
+
+/* The bounds: what is over one is refused. */
+#define FTS4_MAX_QUERY 512      /* bytes of a query */
+#define FTS4_MAX_QUERY_WORDS 16 /* words in a query, those of phrases and repetitions too */
+#define FTS4_MAX_DEPTH 8        /* parentheses inside each other */
+#define FTS4_MAX_LEAVES 8
+#define FTS4_MAX_BYTES 65536    /* bytes of all leaves of a call together */
+#define FTS4_MAX_COLUMNS 16
+#define FTS4_MAX_NAME 32        /* bytes of a column name */
+#define FTS4_MAX_WORD 64        /* bytes of a word */
+#define FTS4_MAX_DOCUMENT 4096  /* bytes of a document's columns together */
+
+/* Rooms that are enough for every input, so that number 4 is never given. */
+#define FTS4_SEARCH_ROOM 21845 /* docids */
+#define FTS4_WRITE_ROOM 40960  /* bytes */
 
 enum {
     FTS4_ACCEPTED = 0, /* second: docids listed, bytes written, or bytes in the part */
