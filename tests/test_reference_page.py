@@ -1,0 +1,204 @@
+#!/usr/bin/env python3
+"""docs/REFERENCE.md is true: its tables are read, and the library is asked. A table that is missing or empty is a failure."""
+import os
+import re
+import sys
+
+import folders
+import header
+import paths
+import sqlite_differences as differences
+from box import Box
+from fts4box import joined, search
+from tally import Tally
+
+PAGE = os.path.join(paths.ROOT, "docs", "REFERENCE.md")
+NAMES = [name.encode() for name in folders.BENCH]
+COLUMNS = len(NAMES)
+OLD_ROW, NEW_ROW = [b"n12", b"probe", b"reply reply"], [b"n12", b"probe", b"late"]
+DOCID, TOP_DOCID = 7, 2**63 - 1
+SEARCH_ROOM, WRITE_ROOM = header.NUMBERS["FTS4_SEARCH_ROOM"], header.NUMBERS["FTS4_WRITE_ROOM"]
+REFUSED_QUERY = 2, 0, []
+# a piece of a query, as often as it comes; the end of a query; a query without bytes
+PIECE = re.compile(r"`([^`]+)`(?: × (\d+))?|(,)|\((nothing)\)")
+
+
+class Page:
+    def __init__(self, tally):
+        with open(PAGE, encoding="utf-8") as f:
+            self.lines = f.read().splitlines()
+        self.tally = tally
+
+    def table(self, first, count):
+        """The rows of the table number `count`, from 0, whose first line is this; a failure where there are none."""
+        places = [i for i, line in enumerate(self.lines) if line == first]
+        rows = []
+        for line in self.lines[places[count] + 2:] if count < len(places) else []:
+            if not line.startswith("|"):
+                break
+            rows.append([cell.strip() for cell in line[1:-1].split("|")])
+        if not rows:
+            self.tally.fail("no table %d: %s" % (count, first))
+        return rows
+
+    def queries(self, first, count=0):
+        """Each query of a table with the other cells of its row."""
+        rows = self.table(first, count)
+        for row in rows:
+            self.tally.check("what is no query in %s" % row[0], PIECE.sub("", row[0]).strip(), "")
+        return [(query, row[1:]) for row in rows for query in queries(row[0])]
+
+
+def queries(cell):
+    """The queries of a cell, with commas between them."""
+    found, query = [], b""
+    for piece, times, comma, _ in PIECE.findall(cell):
+        if comma:
+            found.append(query)
+            query = b""
+        query += unescaped(piece) * int(times or 1)
+    return found + [query]
+
+
+def unescaped(text):
+    return re.sub(rb"\\x([0-9A-F]{2})", lambda found: bytes.fromhex(found.group(1).decode()), text.encode())
+
+
+def unhex(cell):
+    return bytes.fromhex(cell.strip("`"))
+
+
+def numbers(cell):
+    return [int(word) for word in cell.split()]
+
+
+def macros(tally, page):
+    told = {row[0].strip("`"): int(row[1]) for row in page.table("| macro | value | of what |", 0)}
+    defined = {name: value for name, value in header.NUMBERS.items() if name != "FTS4BOX_VERSION_NUMBER"}
+    tally.check("the macros of the header", told, defined)
+    major, minor = header.VERSION.split(".")
+    tally.check("the version's number", header.NUMBERS["FTS4BOX_VERSION_NUMBER"], 100 * int(major) + int(minor))
+
+
+def stored_numbers(tally, box, page):
+    """Each number as the docid of a row with the word a: height, length, a, list length come before it, position and 0 behind it."""
+    for number, data in page.table("| number | bytes |", 0):
+        leaf = folders.written(box, int(number), [b"a"])
+        tally.check("bytes of %s" % number, leaf[4:-2], unhex(data))
+
+
+def posting_lists(tally, box, page):
+    """Each list as that of the one word of a leaf."""
+    for data, what in page.table("| bytes | what it is |", 0):
+        doclist = unhex(data)
+        leaf = bytes([0, 1]) + b"w" + bytes([len(doclist)]) + doclist
+        tally.check("list %s" % data, box.check(leaf, COLUMNS), (3 if what.startswith("refused") else 0, 0))
+
+
+def leaf_of_table(tally, page, count):
+    """The bytes of a leaf's table, whose first column says where they stand."""
+    leaf = b""
+    for at, data, _ in page.table("| at | bytes | what they say |", count):
+        tally.check("where %s stands" % data, int(at), len(leaf))
+        leaf += unhex(data)
+    return leaf
+
+
+def change(tally, library, box, page):
+    """The leaf of one row; a row changed with and without the deletion of what it had."""
+    old, new = folders.written(box, DOCID, OLD_ROW), folders.written(box, DOCID, NEW_ROW)
+    changed = leaf_of_table(tally, page, 1)
+    tally.check("the leaf of one row", leaf_of_table(tally, page, 0), old)
+    tally.check("the leaf with a deletion is the written one and a word", (changed[:len(new)], box.check(changed, COLUMNS)), (new, (0, 0)))
+    lent = {"old": old, "without deletion": new, "with deletion": changed}
+    for row in page.table("| leaves, newest first | `reply` lists | `late` lists |", 0):
+        leaves = [lent[name] for name in row[0].split(", ")]
+        for query, cell in zip((b"reply", b"late"), row[1:]):
+            docids = numbers(cell)
+            tally.check("%r in %s" % (query, row[0]), search(library, NAMES, leaves, query, SEARCH_ROOM), (0, len(docids), docids))
+
+
+def query_tables(tally, library, box, page):
+    rows = page.table("| docid | node | sent | outcome |", 0)
+    leaves = [folders.written(box, int(row[0]), [text.encode() for text in row[1:]]) for row in rows]
+    for query, (_, cell) in page.queries("| query | what it means | docids |"):
+        docids = numbers(cell)
+        tally.check("accepted %.60r" % query, search(library, NAMES, leaves, query, SEARCH_ROOM), (0, len(docids), docids))
+    for query, _ in page.queries("| query | why |"):
+        tally.check("refused %.60r" % query, search(library, NAMES, leaves, query, SEARCH_ROOM), REFUSED_QUERY)
+
+
+def sqlite_tables(tally, library, box, page):
+    """The page has just the queries that tests/test_sqlite.py asks of SQLite, and says what the box answers."""
+    leaves = [folders.written(box, docid, [b"", b"", text]) for docid, text in ((1, b"x"), (2, b"y x"))]
+    known = (differences.ONLY_SQLITE, 2), (differences.ONLY_BOX, 0), (differences.NEAR_ITSELF, 0)
+    for count, (expected, answer) in enumerate(known):
+        told = [query for query, _ in page.queries("| query | what it is |", count)]
+        tally.check("differences, table %d" % count, sorted(told), sorted(expected))
+        for query in told:
+            number, found, _ = search(library, NAMES, leaves, query, SEARCH_ROOM)
+            tally.check("difference %.60r" % query, number, answer)
+            if expected is differences.NEAR_ITSELF:
+                tally.check("%r lists docids" % query, found > 0, True)
+
+
+def shapes(tally, box):
+    """Each item that earns number 1."""
+    leaf, over = folders.written(box, DOCID, OLD_ROW), bytes(65537)
+    lent = joined(NAMES) + joined([leaf])
+    asked = {
+        "check": [(leaf, 0), (leaf, 17), (over, COLUMNS)],
+        "lookup": [(leaf, 0, b"a"), (leaf, 17, b"a"), (over, COLUMNS, b"a"), (leaf, COLUMNS, b""), (leaf, COLUMNS, b"w" * 65)],
+        "deciding": [
+            (leaf, leaf, 0, b"a", 1), (leaf, leaf, 17, b"a", 1), (leaf, over[len(leaf):], COLUMNS, b"a", 1), (leaf, leaf, COLUMNS, b"", 1),
+            (leaf, leaf, COLUMNS, b"w" * 65, 1), (leaf, leaf, COLUMNS, b"a", -1),
+        ],
+        "write": [
+            (1, b"ab", [2, 1], 0), (1, b"ab", [3], 0), (1, b"ab", [1], 0), (1, b"ab", [], 0), (1, b"", [], 0), (1, b"", [0] * 17, 0),
+            (1, b" " * 4097, [4097], 0), (-1, b"ab", [2], 0),
+        ],
+        "search": [(*joined(names), *lent[2:], b"a", 0) for names in (
+            [], [b"c%d" % i for i in range(17)], [b"a", b""], [b"c" * 33], [b"a b"], [b"caf\xc3\xa9"], [b"a-b"], [b"a", b"A"],
+        )] + [(b"ab", ends, *lent[2:], b"a", 0) for ends in ([2, 1], [3], [1], [])]
+        + [(*lent[:2], leaf, ends, b"a", 0) for ends in ([36, 35], [37], [35], [])]
+        + [(*lent[:2], *joined(leaves), b"a", 0) for leaves in ([leaf] * 9, [over])],
+    }
+    for name, cases in asked.items():
+        for case in cases:
+            tally.check("shape of %s %.80r" % (name, case), getattr(box, name)(*case)[:2], (1, 0))
+
+
+def largest_document():
+    """Texts with all words of one byte and as many of two as there is room for: the largest leaf that we know.
+
+    A column of its own spares a word its separator. Column 0 would not be announced, so it has none."""
+    singles = [bytes([b]) for b in (*b"0123456789abcdefghijklmnopqrstuvwxyz", *range(128, 256))]
+    pairs = [a + b for a in singles for b in singles]
+    words = singles + pairs[:1261]
+    return [b"", *words[:14], b" ".join(words[14:])]
+
+
+def largest(tally, box, page):
+    texts = largest_document()
+    tally.check("bytes of the largest document", (len(texts), sum(map(len, texts))), (16, 4096))
+    size = len(folders.written(box, TOP_DOCID, texts))
+    tally.check("the largest leaf is told", [line for line in page.lines if "has %s bytes" % format(size, ",") in line] != [], True)
+    tally.check("the largest leaf has room", size <= WRITE_ROOM, True)
+
+
+def main():
+    tally, box = Tally(), Box()
+    page, library = Page(tally), box.library
+    macros(tally, page)
+    stored_numbers(tally, box, page)
+    posting_lists(tally, box, page)
+    change(tally, library, box, page)
+    query_tables(tally, library, box, page)
+    sqlite_tables(tally, library, box, page)
+    shapes(tally, box)
+    largest(tally, box, page)
+    return tally.finish()
+
+
+if __name__ == "__main__":
+    sys.exit(main())
