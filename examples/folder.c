@@ -6,8 +6,8 @@
  * Status 0: it printed `docs N` and the docids, one to a line. 1: it printed `refused NUMBER SECOND`, the box's answer. 2: the folder
  * is not as its manifest.txt says; standard error has what is wrong. 3: standard output could not be written.
  *
- * What the manifest says of the columns and the hashes is believed: of a hash only the form is looked at. The Python tools
- * check the hashes.
+ * What the manifest says is believed: of a hash, that of the manifest's own lines too, only the form is looked at. The Python tools
+ * check the hashes; a folder that comes from elsewhere is best read by them.
  */
 #include "fts4box.h"
 
@@ -95,13 +95,6 @@ static void next_line(struct manifest *manifest)
     manifest->line[length] = '\0';
 }
 
-static void fixed_line(struct manifest *manifest, const char *expected)
-{
-    next_line(manifest);
-    if (strcmp(manifest->line, expected) != 0)
-        stop("manifest.txt", manifest->line_number, "is not `%s`", expected);
-}
-
 /* Reads a line that is the key, a space and a value; the value. */
 static const char *value_of(struct manifest *manifest, const char *key)
 {
@@ -138,7 +131,8 @@ static void read_head(struct manifest *manifest)
 {
     const char *prepared;
 
-    fixed_line(manifest, "fts4box export 1");
+    if (strcmp(value_of(manifest, "fts4box export"), "1") != 0)
+        wrong(manifest, "the export is of another version");
     value_of(manifest, "database");
     value_of(manifest, "table");
     value_of(manifest, "sqlite");
@@ -189,9 +183,9 @@ static void check_order(const struct manifest *manifest, size_t at)
         wrong(manifest, "the leaf is not older than the one before it");
 }
 
-static void read_hash(struct manifest *manifest)
+static void read_hash(struct manifest *manifest, const char *key)
 {
-    const char *hash = value_of(manifest, "sha256");
+    const char *hash = value_of(manifest, key);
 
     if (strlen(hash) != HASH_DIGITS || strspn(hash, "0123456789abcdef") != HASH_DIGITS)
         wrong(manifest, "the hash is not 64 digits 0 to 9 and a to f");
@@ -214,7 +208,7 @@ static void read_files(struct manifest *manifest)
         if (file->size > left)
             wrong(manifest, "the leaves have too many bytes together");
         left -= file->size;
-        read_hash(manifest);
+        read_hash(manifest, "sha256");
     }
 }
 
@@ -224,7 +218,7 @@ static void read_manifest(const char *folder, struct manifest *manifest, struct 
     read_head(manifest);
     read_columns(manifest, lent);
     read_files(manifest);
-    fixed_line(manifest, "end");
+    read_hash(manifest, "end");
     if (fgetc(manifest->input) != EOF)
         wrong(manifest, "something stands behind this line");
     if (ferror(manifest->input))

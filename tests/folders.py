@@ -29,7 +29,7 @@ def manifest(names, leaves):
     for level, index, data in leaves:
         lines += ["file " + file_name(names, leaves, level, index), "level %d" % level, "index %d" % index, "start 0", "size %d" % len(data)]
         lines.append("sha256 " + hashlib.sha256(data).hexdigest())
-    return lines + ["end"]
+    return lines + ["end " + hashlib.sha256(ended(lines)).hexdigest()]
 
 
 def ended(lines):

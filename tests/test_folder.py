@@ -4,12 +4,15 @@
 A damaged folder is refused with one line on standard error. It never crashes the program, and never gives another list.
 """
 import os
+import sqlite3
 import subprocess
 import sys
 import tempfile
 
 import folders
 import paths
+import export_folder
+import export_leaves
 import reference
 from box import Box
 from fts4box import ARCHIVE
@@ -145,7 +148,7 @@ def bad_values(place):
         "level 1": ["level 0"],
         "index 1": ["index 0", "index 99999999999999999999999"],
         "start 0": ["start", "start x", "start 00", "start 9223372036854775808", "start %d" % 2**64],
-        "end": ["end ", "END", "end\nend"],
+        place.lines[-1]: ["end", "end ", place.lines[-1][:-1], place.lines[-1] + "0", place.lines[-1].upper(), place.lines[-1] + "\n" + place.lines[-1]],
     }
     for line in sizes:
         size = int(line.split()[1])
@@ -227,6 +230,25 @@ def bounds(tally, program, box):
     Place(tally, program, folders.BENCH, [(0, 0, full)]).asked("the most rows", listing([d for d, _ in many]), query="a")
 
 
+def real_exports(tally, program, leaves):
+    """What the export writes is what this test writes, and the program lists SQLite's rows from it."""
+    with tempfile.TemporaryDirectory() as place:
+        ours, theirs, path = (os.path.join(place, name) for name in ("ours", "theirs", "bench.db"))
+        os.mkdir(ours)
+        lines = folders.make(ours, folders.BENCH, leaves)
+        tally.check("the same manifest", export_folder.manifest(export_folder.read(ours)), folders.ended(lines))
+        base = sqlite3.connect(path, isolation_level=None)
+        base.execute("pragma page_size=65536")
+        base.execute("create virtual table \"50% probes\" using fts4(node, sent, outcome)")
+        for docid in range(6):
+            base.execute("insert into \"50% probes\"(docid, node, outcome) values (?, ?, ?)", (docid, "n%d" % docid, ("reply", "no reply, timeout")[docid % 2]))
+        export_folder.write(theirs, export_leaves.export(path, "50% probes"))
+        for query in ("reply", "outcome:reply NOT outcome:timeout", "node:n3"):
+            docids = [docid for (docid,) in base.execute("select docid from \"50% probes\" where \"50% probes\" match ? order by docid", (query,))]
+            tally.check("an export, query " + query, ran(program, theirs, query), listing(docids))
+        base.close()
+
+
 def output(tally, program, leaves):
     """A list that can't be written is no success."""
     with tempfile.TemporaryDirectory() as folder, open("/dev/full", "wb") as full:
@@ -253,6 +275,7 @@ def main():
             names_of_files(tally, program, leaves)
             folders_for_files(tally, program, leaves)
             bounds(tally, program, box)
+            real_exports(tally, program, leaves)
             output(tally, program, leaves)
     return tally.finish()
 
