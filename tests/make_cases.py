@@ -42,6 +42,9 @@ def differs(path, content):
 
 
 def main(words):
+    if words not in ([], ["--check"]):
+        print(__doc__.strip(), file=sys.stderr)
+        return 2
     wrong = []
     for program in PROGRAMS:
         for path, content in files(program):

@@ -18,7 +18,9 @@ class Tally:
         print("FAILED", message)
 
     def finish(self):
-        """Prints the last line and gives the exit status."""
+        """Prints the last line and gives the exit status; a run that checked nothing has failed."""
+        if self.passed + self.failed == 0:
+            self.fail("nothing was checked")
         print("%d passed, %d failed" % (self.passed, self.failed))
         return 1 if self.failed else 0
 

@@ -252,7 +252,7 @@ def report(tally, counts):
         total = sum(counts[name][n] for n in numbers)
         print("%s: %d calls; answer %s" % (name, total, ", ".join("%s: %d" % (kind, counts[name][kind]) for kind in kinds)))
         for kind in kinds:
-            if counts[name][kind] * 100 < total:
+            if counts[name][kind] == 0 or counts[name][kind] * 100 < total:
                 tally.fail("too few cases of %s answered %s" % (name, kind))
         if set(counts[name]) - {*numbers, NOT_EMPTY}:
             tally.fail("%s has another answer" % name)

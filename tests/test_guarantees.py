@@ -7,6 +7,7 @@ import sys
 from paths import ROOT
 from tally import Tally
 
+PAGE = os.path.join("docs", "GUARANTEES.md")
 FUNCTION = re.compile(r"\b(\w+)::(\w+)")
 PLACE = re.compile(r"(?:(\w+): )?\b(specs|proofs)/(\w+)(?:\.([\w'-]+))?")
 NAME = re.compile(r"\s*([\w'-]+)[.)]?\s*")
@@ -44,7 +45,10 @@ def cited(cell):
 
 def main():
     tally = Tally()
-    for line in text(os.path.join(ROOT, "docs", "GUARANTEES.md")).splitlines():
+    page = text(os.path.join(ROOT, PAGE))
+    if not page:
+        tally.fail("%s is missing or empty" % PAGE)
+    for line in page.splitlines():
         for cell in line.split("|") if line.startswith("|") else ():
             for place, name in cited(cell):
                 source = text(os.path.join(ROOT, "crates", place))

@@ -826,9 +826,10 @@ def test_sqlite_search(rng, vocabulary, letters):
 
 
 def test_sqlite(rng):
-    """Comparisons with SQLite, where it has the enhanced syntax."""
-    if not sqlite_has_enhanced_syntax():
-        print("SQLite here lacks FTS4 with the enhanced syntax: not compared")
+    """Comparisons with SQLite, which must have the enhanced syntax."""
+    enhanced = sqlite_has_enhanced_syntax()
+    check("SQLite has FTS4 with the enhanced syntax", enhanced, True)
+    if not enhanced:
         return
     vocabulary = [w.encode() for w in ("a", "ab", "abc", "b", "ba", "bac", "c", "ca", "é", "éa")]
     letters = [b"a", b"b", b"c", "é".encode()[:1]]

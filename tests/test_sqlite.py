@@ -123,10 +123,10 @@ def main(words):
             os.remove(path)
     print("SQLite %s: " % sqlite3.sqlite_version + ", ".join("%d %s" % (n, what) for what, n in counts.items()))
     for what in ("list docids", "have NEAR"):
-        if counts[what] * 4 < counts["compared"]:
+        if counts[what] == 0 or counts[what] * 4 < counts["compared"]:
             tally.fail("too few queries " + what)
     for what in ("with several segments", "with two levels"):
-        if counts[what] * 4 < tables:
+        if counts[what] == 0 or counts[what] * 4 < tables:
             tally.fail("too few tables " + what)
     return tally.finish()
 
