@@ -1,8 +1,10 @@
 // Searches one leaf for the rows that have the word reply, and prints their docids.
 //
-//     rustc -o search examples/search.rs -L target/staticlib -l static=fts4box
+//     rustc --edition 2024 -o search examples/search.rs -L target/staticlib -l static=fts4box
+//
+// Edition 2021 takes it as well, from rustc 1.82 on.
 
-extern "C" {
+unsafe extern "C" {
     fn fts4_search(
         names: *const u8, names_len: usize, name_ends: *const u32, name_ends_len: usize,
         leaves: *const u8, leaves_len: usize, leaf_ends: *const u32, leaf_ends_len: usize,

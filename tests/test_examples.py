@@ -1,16 +1,17 @@
 #!/usr/bin/env python3
-"""The examples are built against the header and the static library and run; the README shows them; the header is C++ too."""
+"""The examples are built against the header and the static library and run, the Rust one in two editions; the header is C++ too."""
 import os
 import subprocess
 import sys
 import tempfile
 
-from paths import EXAMPLES, INCLUDE, ROOT
+from paths import EXAMPLES, INCLUDE
 from fts4box import ARCHIVE
 from tally import Tally
 
 EXPECTED = "docs 1\n7\n"
 WARNINGS = ["-Wall", "-Wextra", "-Werror"]
+EDITIONS = ("2021", "2024")
 CPLUSPLUS = '#include "fts4box.h"\nint main() { uint64_t second; return fts4_check(nullptr, 0, 3, &second) == FTS4_LEAF ? 0 : 1; }\n'
 
 
@@ -25,11 +26,6 @@ def ran(program):
     return done.returncode, done.stdout
 
 
-def text(path):
-    with open(path, encoding="utf-8") as f:
-        return f.read()
-
-
 def main():
     tally = Tally()
     with tempfile.TemporaryDirectory() as folder:
@@ -37,14 +33,14 @@ def main():
         with open(source, "w", encoding="ascii") as f:
             f.write(CPLUSPLUS)
         c_example, rust_example = os.path.join(EXAMPLES, "search.c"), os.path.join(EXAMPLES, "search.rs")
-        for example in (c_example, rust_example):
-            tally.check("the README shows " + example, text(example) in text(os.path.join(ROOT, "README.md")), True)
         linked = ["-L", os.path.dirname(ARCHIVE), "-l", "static=fts4box"]
         commands = [
             ("search.c", ["cc", *WARNINGS, "-std=c99", "-Wpedantic", "-I", INCLUDE, "-o", program, c_example, ARCHIVE], EXPECTED),
-            ("search.rs", ["rustc", "-D", "warnings", "-o", program, rust_example, *linked], EXPECTED),
             ("the header as C++", ["g++", *WARNINGS, "-Wpedantic", "-I", INCLUDE, "-o", program, source, ARCHIVE], ""),
         ]
+        for edition in EDITIONS:
+            command = ["rustc", "--edition", edition, "-D", "warnings", "-o", program, rust_example, *linked]
+            commands.append(("search.rs in edition " + edition, command, EXPECTED))
         for what, command, expected in commands:
             if built(tally, what, command):
                 tally.check(what, ran(program), (0, expected))
