@@ -176,10 +176,9 @@ def read_leaf(leaf, columns):
 
 
 def live_places(leaves, columns):
-    """For each word the rows in which it is live: docid, columns, positions."""
+    """For each word of the leaves the rows in which it is live: docid, columns, positions; none for a word that is deleted everywhere."""
     entries = leaf_format.live_entries([read_leaf(leaf, columns) for leaf in leaves])
-    live = {word: {docid: found for docid, found in rows.items() if found} for word, rows in entries.items()}
-    return {word: rows for word, rows in live.items() if rows}
+    return {word: {docid: found for docid, found in rows.items() if found} for word, rows in entries.items()}
 
 
 def as_text(base, word):
