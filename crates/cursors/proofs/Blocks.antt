@@ -73,7 +73,7 @@ module _ (ds : List ℕ) (n b : ℕ) (inside : n ≤ length ds) where
 
   -- where it ends
   module _ (to : ℕ) (ends : to ≡ min n (blockSize * b + blockSize)) where
-    block-part : blockOf ds n b ≡ part ds (blockSize * b) to
+    pub block-part : blockOf ds n b ≡ part ds (blockSize * b) to
     block-part =
         let l : length (part ds (blockSize * b) to) ≡ to - blockSize * b =
         simp (length-take, length-drop) (omega arith) in

@@ -1,6 +1,7 @@
 pub mod General
 pub mod Bodies
 pub mod Each
+pub mod Framing
 pub mod Docids
 pub mod Rows
 pub mod Moving

@@ -8,7 +8,7 @@
 --     follows   0 for the first cursor of a group, 1 for the others
 --
 -- The cursors stand in blocks: `mins` has the least docid of each block, so that a search need not look at every cursor.
-use Prim.Native.Nat.{ℕ, suc, _+_, _*_, _≤_, _<_, min}
+use Prim.Native.Nat.{ℕ, suc, _+_, _*_, _/_, _≤_, _<_, min}
 use mathlib.Core.Path.{_≡_}
 use mathlib.Core.Bool.{Bool}
 use mathlib.Core.List.{List, [], _∷_, _++_, List·Memᴰ}
@@ -109,6 +109,10 @@ nextOf docid = pick (eqb docid finished) End (Docid docid)
 -- the cursors stand in blocks of so many
 abbrev pub blockSize : ℕ
 blockSize = 16
+
+-- how many blocks n cursors are in
+abbrev pub blocksOf : ℕ → ℕ
+blocksOf n = (n + 15) / blockSize
 
 -- the docids of block number b
 abbrev pub blockOf : List ℕ → ℕ → ℕ → List ℕ

@@ -1,3 +1,4 @@
 pub mod Groups
 pub mod Arrays
+pub mod Frames
 pub mod Scanning

@@ -9,14 +9,16 @@ ghost use mathlib.Core.Path.{_≡_};
 ghost use mathlib.Core.Logic.{_↔_};
 ghost use mathlib.Core.Bool.{true, false};
 ghost use mathlib.Core.List.{List};
-ghost use Prim.Native.Nat.{ℕ, _+_, _*_, _/_, _^_, _≤_, _<_, min};
+ghost use Prim.Native.Nat.{ℕ, _+_, _*_, _^_, _≤_, _<_, min};
 ghost use lib.ListN.{length, getD, take};
 ghost use lib.Dec.{ltb};
 ghost use Rattle.common.specs.Pick.{pick, both};
 ghost use Rattle.common.specs.Bytes.{span};
 ghost use Rattle.doclist.specs.Doclist.{Entry, docidLimit};
 ghost use Rattle.cursors.specs.Groups.{Group, withoutBefore, From, NextIs};
-ghost use Rattle.cursors.specs.Arrays.{finished, isOpen, StandsOn, ListAt, CursorsAre, leastOf, nextOf, blockSize, MinimaAre, RowTaken, Passed, maxLeaves};
+ghost use Rattle.row.specs.Frame.{KeptFrom};
+ghost use Rattle.cursors.specs.Arrays.{finished, isOpen, StandsOn, ListAt, CursorsAre, leastOf, nextOf, blockSize, blocksOf, MinimaAre, RowTaken, Passed, maxLeaves};
+ghost use Rattle.cursors.specs.Frames.{TakeRoom, NotTaken, RowFrame, MoveRoom, NotPassed, among, nextFrom, PassFrame};
 ghost use Rattle.cursors.specs.Scanning.{begun, joined, overOther, overHit, takenOf, Fits, BlockTaken, Scanned};
 ghost use Rattle.cursors.specs.declared.Scan.{Scan};
 
@@ -268,6 +270,7 @@ fn take_block(
     requires { ⌜ Fits from to (now docids) (now bodies) (now lasts) (now masks) (now follows) (now starts) (now matched) × (before .hits ≤ from) × (before .taken ≤ from) ⌝ }
     ensures block { λ r. ⌜ BlockTaken (now (docids .entry)) (now (docids .exit)) from to r ⌝ }
     ensures row { λ r. ⌜ ((n : ℕ) (groups : List Group) (earlier : Scan) → to ≤ n → Scanned (now (leaves .entry)) (now (docids .entry)) (now (bodies .entry)) (now (lasts .entry)) (now (masks .entry)) (now (follows .entry)) n (now (starts .entry)) (now (matched .entry)) docid groups (joined earlier (begun before)) from → Scanned (now (leaves .entry)) (now (docids .exit)) (now (bodies .exit)) (now (lasts .entry)) (now (masks .entry)) (now (follows .entry)) n (now (starts .exit)) (now (matched .exit)) docid groups (joined earlier r) to) ⌝ }
+    ensures frame { λ r. ⌜ ((docids₀ bodies₀ starts₀ matched₀ : List ℕ) → RowFrame docid from docids₀ (now (docids .entry)) bodies₀ (now (bodies .entry)) starts₀ (now (starts .entry)) matched₀ (now (matched .entry)) (before .hits) (before .taken) (before .last) → RowFrame docid to docids₀ (now (docids .exit)) bodies₀ (now (bodies .exit)) starts₀ (now (starts .exit)) matched₀ (now (matched .exit)) (r .hits) (r .taken) (r .last)) ⌝ }
 {
     let mut scan = begin_block(before);
     let mut i = from;
@@ -304,7 +307,7 @@ fn block_end(from: usize, n: usize) -> usize
 
 // How many blocks `n` cursors are in.
 fn blocks_of(n: usize) -> usize
-    ensures { λ r. ⌜ r ≡ (n + 15) / blockSize ⌝ }
+    ensures { λ r. ⌜ r ≡ blocksOf n ⌝ }
 {
     let full = n / BLOCK;
     if full * BLOCK < n {
@@ -315,7 +318,9 @@ fn blocks_of(n: usize) -> usize
 
 // The least docid of each block.
 pub fn minima(docids: &[u64], n: usize, mins: &mut [u64])
-    ensures { λ r. ⌜ (n ≤ length (now (docids .entry)) → n ≤ blockSize * length (now (mins .entry)) → MinimaAre (now (docids .entry)) n (now (mins .exit))) ⌝ }
+    ensures content { λ _. ⌜ (n ≤ length (now (docids .entry)) → n ≤ blockSize * length (now (mins .entry)) → MinimaAre (now (docids .entry)) n (now (mins .exit))) ⌝ }
+    ensures otherwise { λ _. ⌜ (((n ≤ length (now (docids .entry))) × (n ≤ blockSize * length (now (mins .entry))) → ⊥) → now (mins .exit) ≡ now (mins .entry)) ⌝ }
+    ensures frame { λ _. ⌜ KeptFrom (blocksOf n) (now (mins .entry)) (now (mins .exit)) ⌝ }
 {
     if docids.len() < n {
         return;
@@ -323,12 +328,12 @@ pub fn minima(docids: &[u64], n: usize, mins: &mut [u64])
     if mins.len() < blocks_of(n) {
         return;
     }
-    let mut from: usize = 0;
+    let mut start: usize = 0;
     let mut b: usize = 0;
-    while from < n {
-        let to = block_end(from, n);
-        mins[b] = least_of(&docids[from..to]);
-        from = to;
+    while start < n {
+        let end = block_end(start, n);
+        mins[b] = least_of(&docids[start..end]);
+        start = end;
         b += 1;
     }
 }
@@ -399,7 +404,10 @@ pub fn advance(
     starts: &mut [u16],
     matched: &mut [u16],
 ) -> Taken
-    ensures { λ r. ⌜ ((groups : List Group) → CursorsAre (now (leaves .entry)) (now (docids .entry)) (now (bodies .entry)) (now (lasts .entry)) (now (masks .entry)) (now (follows .entry)) n groups → MinimaAre (now (docids .entry)) n (now (mins .entry)) → docid < docidLimit → From docid groups → n ≤ length (now (starts .entry)) → n ≤ length (now (matched .entry)) → RowTaken (now (leaves .entry)) (now (docids .exit)) (now (bodies .exit)) (now (lasts .entry)) (now (masks .entry)) (now (follows .entry)) n (now (mins .exit)) (now (starts .exit)) (now (matched .exit)) docid groups r) ⌝ }
+    ensures row { λ r. ⌜ ((groups : List Group) → CursorsAre (now (leaves .entry)) (now (docids .entry)) (now (bodies .entry)) (now (lasts .entry)) (now (masks .entry)) (now (follows .entry)) n groups → MinimaAre (now (docids .entry)) n (now (mins .entry)) → docid < docidLimit → From docid groups → n ≤ length (now (starts .entry)) → n ≤ length (now (matched .entry)) → RowTaken (now (leaves .entry)) (now (docids .exit)) (now (bodies .exit)) (now (lasts .entry)) (now (masks .entry)) (now (follows .entry)) n (now (mins .exit)) (now (starts .exit)) (now (matched .exit)) docid groups r) ⌝ }
+    ensures minima { λ r. ⌜ (TakeRoom n (now (docids .entry)) (now (bodies .entry)) (now (lasts .entry)) (now (masks .entry)) (now (follows .entry)) (now (mins .entry)) (now (starts .entry)) (now (matched .entry)) → MinimaAre (now (docids .entry)) n (now (mins .entry)) → MinimaAre (now (docids .exit)) n (now (mins .exit)) × (r .next ≡ nextOf (leastOf (take n (now (docids .exit)))))) ⌝ }
+    ensures otherwise { λ r. ⌜ ((TakeRoom n (now (docids .entry)) (now (bodies .entry)) (now (lasts .entry)) (now (masks .entry)) (now (follows .entry)) (now (mins .entry)) (now (starts .entry)) (now (matched .entry)) → ⊥) → NotTaken (now (docids .entry)) (now (docids .exit)) (now (bodies .entry)) (now (bodies .exit)) (now (mins .entry)) (now (mins .exit)) (now (starts .entry)) (now (starts .exit)) (now (matched .entry)) (now (matched .exit)) r) ⌝ }
+    ensures frame { λ r. ⌜ RowFrame docid n (now (docids .entry)) (now (docids .exit)) (now (bodies .entry)) (now (bodies .exit)) (now (starts .entry)) (now (starts .exit)) (now (matched .entry)) (now (matched .exit)) (r .hits) (r .taken) (r .last) × KeptFrom (blocksOf n) (now (mins .entry)) (now (mins .exit)) ⌝ }
 {
     let mut scan = Scan {
         hits: 0,
@@ -409,11 +417,12 @@ pub fn advance(
         rest: FINISHED,
         moved: FINISHED,
     };
+    let none = end_scan(scan, Next::End);
     if !can_move(n, docids.len(), bodies.len(), lasts.len(), mins.len()) {
-        return end_scan(scan, Next::End);
+        return none;
     }
     if !has_room(n, masks.len(), follows.len(), starts.len(), matched.len()) {
-        return end_scan(scan, Next::End);
+        return none;
     }
     let mut from: usize = 0;
     let mut b: usize = 0;
@@ -452,6 +461,7 @@ pub fn advance(
 fn place_from(leaves: &[u8], docid: u64, body: u16, last: u16, rest: u64) -> Place
     ensures content { λ r. ⌜ ((left : List Entry) → length (now (leaves .entry)) ≤ maxLeaves → ListAt (now (leaves .entry)) left docid body last → ListAt (now (leaves .entry)) (withoutBefore rest left) (r .docid) (r .body) last) ⌝ }
     ensures reached { λ r. ⌜ rest ≤ r .docid ⌝ }
+    ensures stays { λ r. ⌜ (rest ≤ docid → (r .docid ≡ docid) × (r .body ≡ body)) ⌝ }
 {
     let mut place = Place { docid, body };
     while place.docid < rest {
@@ -462,7 +472,7 @@ fn place_from(leaves: &[u8], docid: u64, body: u16, last: u16, rest: u64) -> Pla
 
 // Whether a docid is among some.
 fn has_docid(docids: &[u64], docid: u64) -> bool
-    ensures { λ r. ⌜ (r ≡ true → leastOf (now (docids .entry)) ≤ docid) ⌝ }
+    ensures { λ r. ⌜ r ≡ among docid (now (docids .entry)) ⌝ }
 {
     let mut i: usize = 0;
     while i < docids.len() {
@@ -477,7 +487,8 @@ fn has_docid(docids: &[u64], docid: u64) -> bool
 // The least docid of all blocks, none of which is before `rest`. Mostly it is `rest`, which is found sooner.
 fn least_block(mins: &[u64], n: usize, rest: u64) -> Next
     requires { ⌜ n ≤ blockSize * length (now mins) ⌝ }
-    ensures { λ r. ⌜ ((docids : List ℕ) → n ≤ length docids → MinimaAre docids n (now (mins .entry)) → rest ≤ leastOf (take n docids) → r ≡ nextOf (leastOf (take n docids))) ⌝ }
+    ensures reader { λ r. ⌜ r ≡ nextFrom rest (take (blocksOf n) (now (mins .entry))) ⌝ }
+    ensures content { λ r. ⌜ ((docids : List ℕ) → n ≤ length docids → MinimaAre docids n (now (mins .entry)) → rest ≤ leastOf (take n docids) → r ≡ nextOf (leastOf (take n docids))) ⌝ }
 {
     let end = blocks_of(n);
     if has_docid(&mins[0..end], rest) {
@@ -497,13 +508,16 @@ pub fn pass(
     n: usize,
     mins: &mut [u64],
 ) -> Next
-    ensures { λ r. ⌜ ((masks follows : List ℕ) (groups : List Group) → CursorsAre (now (leaves .entry)) (now (docids .entry)) (now (bodies .entry)) (now (lasts .entry)) masks follows n groups → MinimaAre (now (docids .entry)) n (now (mins .entry)) → i < n → rest ≤ finished → ((k : ℕ) → k < n → (k ≡ i → ⊥) → rest ≤ getD (now (docids .entry)) k 0) → Passed (now (leaves .entry)) (now (docids .exit)) (now (bodies .exit)) (now (lasts .entry)) masks follows n (now (mins .exit)) i rest groups r) ⌝ }
+    ensures content { λ r. ⌜ ((masks follows : List ℕ) (groups : List Group) → CursorsAre (now (leaves .entry)) (now (docids .entry)) (now (bodies .entry)) (now (lasts .entry)) masks follows n groups → MinimaAre (now (docids .entry)) n (now (mins .entry)) → i < n → rest ≤ finished → ((k : ℕ) → k < n → (k ≡ i → ⊥) → rest ≤ getD (now (docids .entry)) k 0) → Passed (now (leaves .entry)) (now (docids .exit)) (now (bodies .exit)) (now (lasts .entry)) masks follows n (now (mins .exit)) i rest groups r) ⌝ }
+    ensures otherwise { λ r. ⌜ (((i < n) × MoveRoom n (now (docids .entry)) (now (bodies .entry)) (now (lasts .entry)) (now (mins .entry)) → ⊥) → NotPassed (now (docids .entry)) (now (docids .exit)) (now (bodies .entry)) (now (bodies .exit)) (now (mins .entry)) (now (mins .exit)) r) ⌝ }
+    ensures frame { λ r. ⌜ (i < n → MoveRoom n (now (docids .entry)) (now (bodies .entry)) (now (lasts .entry)) (now (mins .entry)) → PassFrame n i rest (now (docids .entry)) (now (docids .exit)) (now (bodies .entry)) (now (bodies .exit)) (now (mins .entry)) (now (mins .exit)) r) ⌝ }
 {
+    let none = Next::End;
     if n <= i {
-        return Next::End;
+        return none;
     }
     if !can_move(n, docids.len(), bodies.len(), lasts.len(), mins.len()) {
-        return Next::End;
+        return none;
     }
     let place = place_from(leaves, docids[i], bodies[i], lasts[i], rest);
     docids[i] = place.docid;

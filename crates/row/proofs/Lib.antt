@@ -2,3 +2,4 @@ pub mod General
 pub mod Bodies
 pub mod Rows
 pub mod Candidates
+pub mod Frames

@@ -9,10 +9,15 @@ use mathlib.Core.List.{List}
 use Prim.Native.Nat.{ℕ, _-_, _*_, _≤_, _<_, min}
 use native.Mathlib.Omega.{arith}
 use borrow.Author.Needs.{needs}
+use Rattle.row.specs.Frame.{KeptFrom}
+use Rattle.row.proofs.Frames.{kept-all, kept-set}
 use Rattle.cursors.specs.Groups.{Group}
-use Rattle.cursors.specs.Arrays.{leastOf, nextOf, blockSize, MinimaAre, RowTaken}
+use Rattle.cursors.specs.Frames.{RowFrame}
+use Rattle.cursors.specs.Arrays.{leastOf, nextOf, blockSize, blocksOf, MinimaAre, RowTaken}
 use Rattle.cursors.specs.Scanning.{Fits, Scanned}
 use Rattle.cursors.specs.declared.Scan.{Scan}
+use Rattle.cursors.specs.declared.Taken.{Taken}
+use Rattle.cursors.proofs.Framing.{frame-none, frame-others}
 use Rattle.cursors.proofs.Blocks.{minima-set, least-passed, least-taken}
 use Rattle.cursors.proofs.Scanning.{Ready, scanned-start, scanned-lower, scanned-block, scanned-end}
 use Rattle.cursors.proofs.advance.Statement.{statement}
@@ -30,38 +35,60 @@ Inv-loop docid leaves docids₀ bodies₀ lasts masks follows n mins₀ starts�
     × (from ≡ min n (blockSize * b))
     × (scan .hits ≤ from)
     × (scan .taken ≤ from)
+    × (MinimaAre docids₀ n mins₀ → MinimaAre docids n mins × (min (scan .rest) (scan .moved) ≡ leastOf (take from docids)))
     × ((gs : List Group) → Ready leaves docids₀ bodies₀ lasts masks follows n mins₀ starts₀ matched₀ docid gs
-    → MinimaAre docids n mins
-    × (min (scan .rest) (scan .moved) ≡ leastOf (take from docids))
-    × Scanned leaves docids bodies lasts masks follows n starts matched docid gs scan from)
+    → Scanned leaves docids bodies lasts masks follows n starts matched docid gs scan from)
+    × RowFrame docid from docids₀ docids bodies₀ bodies starts₀ starts matched₀ matched (scan .hits) (scan .taken) (scan .last)
+    × KeptFrom (blocksOf n) mins₀ mins
 
 abbrev μ-loop : tie.MeasureT-loop
 μ-loop docid leaves docids₀ bodies₀ lasts masks follows n mins₀ starts₀ matched₀ scan₀ from₀ b₀ docids bodies mins starts matched scan from b =
     n - from
 
-can-move-requires : tie.Need-can-move-requires Inv-loop μ-loop
-can-move-requires c κs = search needs
-
 end-scan-requires : tie.Need-end-scan-requires Inv-loop μ-loop
 end-scan-requires c κs = search needs
 
+can-move-requires : tie.Need-can-move-requires Inv-loop μ-loop
+can-move-requires c κs = search needs
+
 returns : tie.Need-returns Inv-loop μ-loop
 returns c =
-    λ gs are minima limit from hs hm.
-    let h = are .hold .room in
-    absurd (false-not-true {X = ⊥} (sym (not-true _ (c .before .if1 .taken)) ∙ c .before .before .can-move .ensures .1 (h .docid-room, h .body-room, h .last-room, minima .room)))
+    let a = c .before .before .before .before .before .before .before .before .before .before .before .before .args in
+    let no = not-true _ (c .if1 .taken) in (
+      λ gs are minima limit from hs hm. let h = are .hold .room in absurd (false-not-true {X = ⊥} (sym no ∙ c .before .can-move .ensures .1 (h .docid-room, h .body-room, h .last-room, minima .room))),
+      (
+        λ h m. let r = h .cursor-room in absurd (false-not-true {X = ⊥} (sym no ∙ c .before .can-move .ensures .1 (r .docid-room, r .body-room, r .last-room, h .min-room))),
+        (
+          λ o. record { answer = c .before .before .end-scan .ensures; docids-same = refl; bodies-same = refl; mins-same = refl; starts-same = refl; matched-same = refl },
+          (
+            subst (λ (t : Taken). RowFrame (a .docid) (a .n) (a .docids .now) (a .docids .now) (a .bodies .now) (a .bodies .now) (a .starts .now) (a .starts .now) (a .matched .now) (a .matched .now) (t .hits) (t .taken) (t .last)) (sym (c .before .before .end-scan .ensures))
+                (frame-none (a .docid) (a .n) (a .docids .now) (a .bodies .now) (a .starts .now) (a .matched .now)),
+            kept-all _ _,
+          ),
+        ),
+      ),
+    )
 
 has-room-requires : tie.Need-has-room-requires Inv-loop μ-loop
 has-room-requires c κs = search needs
 
-end-scan-requires-2 : tie.Need-end-scan-requires-2 Inv-loop μ-loop
-end-scan-requires-2 c κs = search needs
-
 returns-2 : tie.Need-returns-2 Inv-loop μ-loop
 returns-2 c =
-    λ gs are minima limit from hs hm.
-    let h = are .hold .room in
-    absurd (false-not-true {X = ⊥} (sym (not-true _ (c .before .if2 .taken)) ∙ c .before .before .has-room .ensures .1 (h .mask-room, h .follow-room, hs, hm)))
+    let a = c .before .before .before .before .before .before .before .before .before .before .before .before .before .before .args in
+    let no = not-true _ (c .if2 .taken) in (
+      λ gs are minima limit from hs hm. let h = are .hold .room in absurd (false-not-true {X = ⊥} (sym no ∙ c .before .has-room .ensures .1 (h .mask-room, h .follow-room, hs, hm))),
+      (
+        λ h m. let r = h .cursor-room in absurd (false-not-true {X = ⊥} (sym no ∙ c .before .has-room .ensures .1 (r .mask-room, r .follow-room, h .start-room, h .matched-room))),
+        (
+          λ o. record { answer = c .before .before .before .before .end-scan .ensures; docids-same = refl; bodies-same = refl; mins-same = refl; starts-same = refl; matched-same = refl },
+          (
+            subst (λ (t : Taken). RowFrame (a .docid) (a .n) (a .docids .now) (a .docids .now) (a .bodies .now) (a .bodies .now) (a .starts .now) (a .starts .now) (a .matched .now) (a .matched .now) (t .hits) (t .taken) (t .last)) (sym (c .before .before .before .before .end-scan .ensures))
+                (frame-none (a .docid) (a .n) (a .docids .now) (a .bodies .now) (a .starts .now) (a .matched .now)),
+            kept-all _ _,
+          ),
+        ),
+      ),
+    )
 
 loop-holds : tie.Need-loop-holds Inv-loop μ-loop
 loop-holds c =
@@ -86,7 +113,10 @@ loop-holds c =
       omega arith,
       omega arith,
       omega arith,
-      λ gs q. (q .minima, refl, scanned-start _ _ q),
+      λ h. (h, refl),
+      λ gs q. scanned-start _ _ q,
+      frame-none _ _ _ _ _ _,
+      kept-all _ _,
     )
 
 block-end-requires : tie.Need-block-end-requires Inv-loop μ-loop
@@ -113,7 +143,7 @@ loop-less c = search needs
 loop-again : tie.Need-loop-again Inv-loop μ-loop
 loop-again c =
     let l = c .before .before .before .before .before .before .loop in
-    let a = c .before .before .before .before .before .before .before .before .before .before .before .before .before .before .before .before .before .before .before .before .args in
+    let a = c .before .before .before .before .before .before .before .before .before .before .before .before .before .before .before .before .before .before .before .before .before .args in
     let f = l .inv .0 in
     let t = c .before .before .before .before .before .loop-test .taken in
     let to = c .before .before .before .before .block-end .result in
@@ -141,15 +171,19 @@ loop-again c =
       omega arith,
       subst (λ (s : Scan). s .hits ≤ to) (sym e) (omega (arith, l .inv .8)),
       subst (λ (s : Scan). s .taken ≤ to) (sym e) (omega (arith, l .inv .9)),
-      λ gs r.
-          let p = l .inv .10 gs r in (
+      λ h.
+          let p = l .inv .10 h in (
             p .0,
             subst (λ (s : Scan). min (s .rest) (s .moved) ≡ leastOf (take to (l .docids))) (sym e)
                 (least-passed (l .docids) (l .mins) (a .n) (l .b) (l .from) to (l .scan .rest) (l .scan .moved) (p .0) (f .docid-room) q t ends (p .1)),
-            subst (λ (s : Scan). Scanned (a .leaves .now) (l .docids) (l .bodies) (a .lasts .now) (a .masks .now) (a .follows .now) (a .n) (l .starts) (l .matched) (a .docid) gs s to) (sym e)
-                (scanned-block (a .leaves .now) (l .docids) (l .bodies) (a .lasts .now) (a .masks .now) (a .follows .now) (a .n) (l .starts) (l .matched) (a .docid) gs (l .from) (l .mins) (l .b) to (l .scan)
-                (p .0) (r .from) (f .docid-room) q t ends (g .0) (g .1) (p .2)),
           ),
+      λ gs r.
+          subst (λ (s : Scan). Scanned (a .leaves .now) (l .docids) (l .bodies) (a .lasts .now) (a .masks .now) (a .follows .now) (a .n) (l .starts) (l .matched) (a .docid) gs s to) (sym e)
+          (scanned-block (a .leaves .now) (l .docids) (l .bodies) (a .lasts .now) (a .masks .now) (a .follows .now) (a .n) (l .starts) (l .matched) (a .docid) gs (l .from) (l .mins) (l .b) to (l .scan)
+          (l .inv .10 (r .minima) .0) (r .from) (f .docid-room) q t ends (g .0) (g .1) (l .inv .11 gs r)),
+      subst (λ (s : Scan). RowFrame (a .docid) to (a .docids .now) (l .docids) (a .bodies .now) (l .bodies) (a .starts .now) (l .starts) (a .matched .now) (l .matched) (s .hits) (s .taken) (s .last)) (sym e)
+          (frame-others (l .inv .12) to (omega arith)),
+      l .inv .13,
     )
 
 take-block-requires : tie.Need-take-block-requires Inv-loop μ-loop
@@ -184,7 +218,7 @@ join-requires : tie.Need-join-requires Inv-loop μ-loop
 join-requires c κs = search needs
 
 add-b-2 : tie.Need-add-b-2 Inv-loop μ-loop
-add-b-2 c = omega (arith, c .before .before .before .before .before .before .before .before .before .before .before .before .before .before .before .before .before .before .before .before .loop .inv .7, c .before .before .before .before .before .before .before .before .before .before .before .before .before .before .before .before .before .before .before .loop-test .taken, c .before .before .before .before .before .before .before .before .before .before .before .before .before .before .before .before .before .before .before .before .before .before .before .before .before .before .before .before .before .before .before .before .before .before .fits .n)
+add-b-2 c = omega (arith, c .before .before .before .before .before .before .before .before .before .before .before .before .before .before .before .before .before .before .before .before .loop .inv .7, c .before .before .before .before .before .before .before .before .before .before .before .before .before .before .before .before .before .before .before .loop-test .taken, c .before .before .before .before .before .before .before .before .before .before .before .before .before .before .before .before .before .before .before .before .before .before .before .before .before .before .before .before .before .before .before .before .before .before .before .fits .n)
 
 loop-less-2 : tie.Need-loop-less-2 Inv-loop μ-loop
 loop-less-2 c = search needs
@@ -192,7 +226,7 @@ loop-less-2 c = search needs
 loop-again-2 : tie.Need-loop-again-2 Inv-loop μ-loop
 loop-again-2 c =
     let l = c .before .before .before .before .before .before .before .before .before .before .before .before .before .before .before .before .before .before .before .before .loop in
-    let a = c .before .before .before .before .before .before .before .before .before .before .before .before .before .before .before .before .before .before .before .before .before .before .before .before .before .before .before .before .before .before .before .before .before .before .args in
+    let a = c .before .before .before .before .before .before .before .before .before .before .before .before .before .before .before .before .before .before .before .before .before .before .before .before .before .before .before .before .before .before .before .before .before .before .before .args in
     let f = l .inv .0 in
     let t = c .before .before .before .before .before .before .before .before .before .before .before .before .before .before .before .before .before .before .before .loop-test .taken in
     let to = c .before .before .before .before .before .before .before .before .before .before .before .before .before .before .before .before .before .before .block-end .result in
@@ -231,17 +265,21 @@ loop-again-2 c =
       omega arith,
       subst (λ (s : Scan). s .hits ≤ to) (sym e) (block .few-hits),
       subst (λ (s : Scan). s .taken ≤ to) (sym e) (block .few-taken),
-      λ gs r.
-          let p = l .inv .10 gs r in (
+      λ h.
+          let p = l .inv .10 h in (
             minima-set docids (l .mins) (a .n) (l .b) to m (omega (arith, f .docid-room)) (l .inv .1) (omega arith) (omega arith)
                 (least ∙ ap (λ (x : ℕ). leastOf (part docids x to)) q) (l .docids) (p .0) dl
                 (λ j o. block .others j (λ (u : l .from ≤ j) (v : j < to). o (omega arith) v)),
             subst (λ (s : Scan). min (s .rest) (s .moved) ≡ leastOf (take to docids)) (sym e)
                 (least-taken (l .docids) docids (l .from) to (l .scan) (k .result) (omega arith) (omega (arith, f .docid-room)) dl block (p .1)),
-            subst (λ (s : Scan). Scanned (a .leaves .now) docids bodies (a .lasts .now) (a .masks .now) (a .follows .now) (a .n) starts matched (a .docid) gs s to) (sym e)
-                (k .ensures .1 (a .n) gs (l .scan) (omega arith)
-                (scanned-lower (a .leaves .now) (l .docids) (l .bodies) (a .lasts .now) (a .masks .now) (a .follows .now) (a .n) (l .starts) (l .matched) (a .docid) gs (l .from) _ _ (l .scan) (p .2))),
           ),
+      λ gs r.
+          subst (λ (s : Scan). Scanned (a .leaves .now) docids bodies (a .lasts .now) (a .masks .now) (a .follows .now) (a .n) starts matched (a .docid) gs s to) (sym e)
+          (k .ensures .1 .0 (a .n) gs (l .scan) (omega arith)
+          (scanned-lower (a .leaves .now) (l .docids) (l .bodies) (a .lasts .now) (a .masks .now) (a .follows .now) (a .n) (l .starts) (l .matched) (a .docid) gs (l .from) _ _ (l .scan) (l .inv .11 gs r))),
+      subst (λ (s : Scan). RowFrame (a .docid) to (a .docids .now) docids (a .bodies .now) bodies (a .starts .now) starts (a .matched .now) matched (s .hits) (s .taken) (s .last)) (sym e)
+          (k .ensures .1 .1 (a .docids .now) (a .bodies .now) (a .starts .now) (a .matched .now) (l .inv .12)),
+      kept-set (l .inv .13) (l .b) m (omega arith),
     )
 
 lesser-requires-2 : tie.Need-lesser-requires-2 Inv-loop μ-loop
@@ -250,8 +288,8 @@ lesser-requires-2 c κs = search needs
 next-of-requires : tie.Need-next-of-requires Inv-loop μ-loop
 next-of-requires c κs = search needs
 
-end-scan-requires-3 : tie.Need-end-scan-requires-3 Inv-loop μ-loop
-end-scan-requires-3 c κs = search needs
+end-scan-requires-2 : tie.Need-end-scan-requires-2 Inv-loop μ-loop
+end-scan-requires-2 c κs = search needs
 
 same-length : tie.Need-same-length Inv-loop μ-loop
 same-length c = search needs
@@ -271,17 +309,35 @@ same-length-5 c = search needs
 returns-3 : tie.Need-returns-3 Inv-loop μ-loop
 returns-3 c =
     let l = c .before .before .before .before .loop in
-    let a = c .before .before .before .before .before .before .before .before .before .before .before .before .before .before .before .before .before .before .args in
+    let a = c .before .before .before .before .before .before .before .before .before .before .before .before .before .before .before .before .before .before .before .args in
     let f = l .inv .0 in
     let q : l .from ≡ a .n = omega (arith, f .block, c .before .before .before .loop-test .left) in
-    λ gs are minima limit from hs hm.
-    let r : Ready (a .leaves .now) (a .docids .now) (a .bodies .now) (a .lasts .now) (a .masks .now) (a .follows .now) (a .n) (a .mins .now) (a .starts .now) (a .matched .now) (a .docid) gs =
-    record { cursors-are = are; minima = minima; limit = limit; from = from; start-room = hs; matched-room = hm } in
-    let p = l .inv .10 gs r in
-    subst (RowTaken (a .leaves .now) (l .docids) (l .bodies) (a .lasts .now) (a .masks .now) (a .follows .now) (a .n) (l .mins) (l .starts) (l .matched) (a .docid) gs) (sym (c .end-scan3 .ensures))
-    (scanned-end (c .before .next-of .result) r (f .docid-room) (f .body-room)
-    (c .before .next-of .ensures ∙ ap nextOf (c .before .before .lesser2 .ensures ∙ p .1 ∙ ap (λ (k : ℕ). leastOf (take k (l .docids))) q)) (p .0)
-    (subst (Scanned (a .leaves .now) (l .docids) (l .bodies) (a .lasts .now) (a .masks .now) (a .follows .now) (a .n) (l .starts) (l .matched) (a .docid) gs (l .scan)) q (p .2)))
+    let next : MinimaAre (a .docids .now) (a .n) (a .mins .now) → c .before .next-of .result ≡ nextOf (leastOf (take (a .n) (l .docids))) =
+    λ m. c .before .next-of .ensures ∙ ap nextOf (c .before .before .lesser2 .ensures ∙ l .inv .10 m .1 ∙ ap (λ (k : ℕ). leastOf (take k (l .docids))) q) in (
+      λ gs are minima limit from hs hm.
+          let r : Ready (a .leaves .now) (a .docids .now) (a .bodies .now) (a .lasts .now) (a .masks .now) (a .follows .now) (a .n) (a .mins .now) (a .starts .now) (a .matched .now) (a .docid) gs =
+          record { cursors-are = are; minima = minima; limit = limit; from = from; start-room = hs; matched-room = hm } in
+          subst (RowTaken (a .leaves .now) (l .docids) (l .bodies) (a .lasts .now) (a .masks .now) (a .follows .now) (a .n) (l .mins) (l .starts) (l .matched) (a .docid) gs) (sym (c .end-scan2 .ensures))
+          (scanned-end (c .before .next-of .result) r (f .docid-room) (f .body-room)
+          (next minima) (l .inv .10 minima .0)
+          (subst (Scanned (a .leaves .now) (l .docids) (l .bodies) (a .lasts .now) (a .masks .now) (a .follows .now) (a .n) (l .starts) (l .matched) (a .docid) gs (l .scan)) q (l .inv .11 gs r))),
+      (
+        λ h m. (l .inv .10 m .0, subst (λ (t : Taken). t .next ≡ nextOf (leastOf (take (a .n) (l .docids)))) (sym (c .end-scan2 .ensures)) (next m)),
+        (
+          λ o. absurd (o (record {
+            cursor-room = record { docid-room = omega (arith, f .docid-room, l .inv .2); body-room = omega (arith, f .body-room, l .inv .3); last-room = f .last-room; mask-room = f .mask-room; follow-room = f .follow-room };
+            min-room = omega (arith, l .inv .1, l .inv .4);
+            start-room = omega (arith, f .start-room, l .inv .5);
+            matched-room = omega (arith, f .matched-room, l .inv .6);
+          })),
+          (
+            subst (λ (t : Taken). RowFrame (a .docid) (a .n) (a .docids .now) (l .docids) (a .bodies .now) (l .bodies) (a .starts .now) (l .starts) (a .matched .now) (l .matched) (t .hits) (t .taken) (t .last)) (sym (c .end-scan2 .ensures))
+                (subst (λ (k : ℕ). RowFrame (a .docid) k (a .docids .now) (l .docids) (a .bodies .now) (l .bodies) (a .starts .now) (l .starts) (a .matched .now) (l .matched) (l .scan .hits) (l .scan .taken) (l .scan .last)) q (l .inv .12)),
+            l .inv .13,
+          ),
+        ),
+      ),
+    )
 
 pub advance-spec : {M : Type 1} → statement M
 advance-spec =
@@ -289,11 +345,10 @@ advance-spec =
     (tie.spec
     Inv-loop
     μ-loop
-    can-move-requires
     end-scan-requires
+    can-move-requires
     returns
     has-room-requires
-    end-scan-requires-2
     returns-2
     loop-holds
     block-end-requires
@@ -314,7 +369,7 @@ advance-spec =
     loop-again-2
     lesser-requires-2
     next-of-requires
-    end-scan-requires-3
+    end-scan-requires-2
     same-length
     same-length-2
     same-length-3

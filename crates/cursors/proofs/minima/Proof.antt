@@ -6,32 +6,35 @@ use mathlib.Core.Path.{_≡_, refl, ap, _∙_}
 use Prim.Native.Nat.{ℕ, _-_, _*_, _≤_, _<_, min}
 use native.Mathlib.Omega.{arith}
 use borrow.Author.Needs.{needs}
-use Rattle.cursors.specs.Arrays.{leastOf, blockSize, blockOf}
+use Rattle.row.specs.Frame.{KeptFrom}
+use Rattle.row.proofs.Frames.{kept-all, kept-set}
+use Rattle.cursors.specs.Arrays.{leastOf, blockSize, blocksOf, blockOf}
 use Rattle.cursors.proofs.minima.Statement.{statement}
 use Rattle.cursors.proofs.minima.Tie as tie
 
 abbrev Inv-loop : tie.InvT-loop
-Inv-loop docids n mins₀ from₀ b₀ mins from b =
+Inv-loop docids n mins₀ start₀ b₀ mins start b =
     (n ≤ length docids)
     × (n ≤ blockSize * length mins)
     × (length mins ≡ length mins₀)
-    × (from ≡ min n (blockSize * b))
+    × (start ≡ min n (blockSize * b))
     × ((j : ℕ) → j < b → getD mins j 0 ≡ leastOf (blockOf docids n j))
+    × KeptFrom (blocksOf n) mins₀ mins
 
 abbrev μ-loop : tie.MeasureT-loop
-μ-loop docids n mins₀ from₀ b₀ mins from b = n - from
+μ-loop docids n mins₀ start₀ b₀ mins start b = n - start
 
 returns : tie.Need-returns Inv-loop μ-loop
-returns c = λ h r. absurd (omega arith)
+returns c = (λ h r. absurd (omega arith), (λ o. refl, kept-all _ _))
 
 blocks-of-requires : tie.Need-blocks-of-requires Inv-loop μ-loop
 blocks-of-requires c κs = search needs
 
 returns-2 : tie.Need-returns-2 Inv-loop μ-loop
-returns-2 c = λ h r. absurd (omega (arith, c .before .blocks-of .ensures))
+returns-2 c = (λ h r. absurd (omega (arith, c .before .blocks-of .ensures)), (λ o. refl, kept-all _ _))
 
 loop-holds : tie.Need-loop-holds Inv-loop μ-loop
-loop-holds c = (omega arith, omega (arith, c .before .blocks-of .ensures), refl, omega arith, λ j h. absurd (omega arith))
+loop-holds c = (omega arith, omega (arith, c .before .blocks-of .ensures), refl, omega arith, λ j h. absurd (omega arith), kept-all _ _)
 
 block-end-requires : tie.Need-block-end-requires Inv-loop μ-loop
 block-end-requires c κs = search needs
@@ -70,7 +73,7 @@ loop-again c =
     let n = c .before .before .before .before .before .before .before .before .before .before .args .n in
     let to = c .before .before .block-end .result in
     let t = c .before .before .before .loop-test .taken in
-    let q : l .from ≡ blockSize * l .b = omega (arith, l .inv .3) in
+    let q : l .start ≡ blockSize * l .b = omega (arith, l .inv .3) in
     let e = c .before .before .block-end .ensures in
     let z = length-set (l .mins) (l .b) (c .least-of .result) in (
       l .inv .0,
@@ -79,6 +82,7 @@ loop-again c =
       omega (arith, l .inv .3),
       minima-more docids (l .mins) n (l .b) to (c .least-of .result) (l .inv .0) (l .inv .1) (omega arith) (omega arith)
           (c .least-of .ensures ∙ ap (λ (x : ℕ). leastOf (part docids x to)) q) (l .inv .4),
+      kept-set (l .inv .5) (l .b) (c .least-of .result) (omega arith),
     )
 
 same-length : tie.Need-same-length Inv-loop μ-loop
@@ -86,8 +90,10 @@ same-length c = search needs
 
 returns-3 : tie.Need-returns-3 Inv-loop μ-loop
 returns-3 c =
-    let l = c .before .loop in
-    λ h r. record { room = l .inv .1; each = λ j k. l .inv .4 j (omega (arith, l .inv .3, c .loop-test .left)) }
+    let l = c .before .loop in (
+      λ h r. record { room = l .inv .1; each = λ j k. l .inv .4 j (omega (arith, l .inv .3, c .loop-test .left)) },
+      (λ o. absurd (o (l .inv .0, omega (arith, l .inv .1, l .inv .2))), l .inv .5),
+    )
 
 pub minima-spec : {M : Type 1} → statement M
 minima-spec =

@@ -5,27 +5,35 @@ use Rattle.common.specs.Bytes.{part}
 use lib.ListN.{length-set, getD, set}
 use lib.Seq.{getD-set-other}
 use Rattle.cursors.specs.Arrays.{cursors, noCursor, leastOf, blockSize, MinimaAre}
-use Rattle.cursors.proofs.Blocks.{minima-set}
+use Rattle.cursors.proofs.Blocks.{block-part, minima-set}
 use Rattle.cursors.proofs.Passing.{passed-from, passed}
-use mathlib.Core.Path.{_≡_, sym, ap, _∙_}
+use mathlib.Core.Path.{_≡_, refl, sym, ap, _∙_}
 use mathlib.Core.List.{List}
-use Prim.Native.Nat.{ℕ, _*_, _/_, _≤_}
+use Prim.Native.Nat.{ℕ, _+_, _*_, _/_, _≤_, min}
 use native.Mathlib.Omega.{arith}
 use borrow.Author.Needs.{needs}
 use Rattle.cursors.proofs.pass.Statement.{statement}
 use Rattle.cursors.proofs.pass.Tie as tie
 
 returns : tie.Need-returns
-returns c = λ masks follows gs are minima inside top others. absurd (omega arith)
+returns c = (
+  λ masks follows gs are minima inside top others. absurd (omega arith),
+  (λ o. record { answer = refl; docids-same = refl; bodies-same = refl; mins-same = refl }, λ h m. absurd (omega arith)),
+)
 
 can-move-requires : tie.Need-can-move-requires
 can-move-requires c κs = search needs
 
 returns-2 : tie.Need-returns-2
 returns-2 c =
-    λ masks follows gs are minima inside top others.
-    let h = are .hold .room in
-    absurd (false-not-true {X = ⊥} (sym (not-true _ (c .if2 .taken)) ∙ c .before .can-move .ensures .1 (h .docid-room, h .body-room, h .last-room, minima .room)))
+    let no = not-true _ (c .if2 .taken) in (
+      λ masks follows gs are minima inside top others.
+          let h = are .hold .room in absurd (false-not-true {X = ⊥} (sym no ∙ c .before .can-move .ensures .1 (h .docid-room, h .body-room, h .last-room, minima .room))),
+      (
+        λ o. record { answer = refl; docids-same = refl; bodies-same = refl; mins-same = refl },
+        λ h m. absurd (false-not-true {X = ⊥} (sym no ∙ c .before .can-move .ensures .1 (m .docid-room, m .body-room, m .last-room, m .min-room))),
+      ),
+    )
 
 mul-place-from : tie.Need-mul-place-from
 mul-place-from c = search (needs, c .before .can-move .ensures .0 (not-false _ (c .if2 .left)))
@@ -113,16 +121,33 @@ returns-3 c =
     let to = c .before .before .before .before .before .block-end .result in
     let m = c .before .before .least-of .result in
     let dl = length-set docids (a .i) (place .docid) in
-    let low : a .rest ≤ place .docid = omega (arith, c .before .before .before .before .before .before .place-from .ensures .1) in
-    λ masks follows gs are minima inside top others.
+    let low : a .rest ≤ place .docid = omega (arith, c .before .before .before .before .before .before .place-from .ensures .1 .0) in
     let moved : List ℕ = set docids (a .i) (place .docid) in
     let q : b * blockSize ≡ blockSize * b = omega arith in
-    let mins : MinimaAre moved (a .n) (set (a .mins .now) b m) =
-    minima-set moved (a .mins .now) (a .n) b to m (omega (arith, are .hold .room .docid-room)) (minima .room) (omega arith) (c .before .before .before .before .before .block-end .ensures ∙ omega arith)
-    (c .before .before .least-of .ensures ∙ ap (λ (x : ℕ). leastOf (part moved x to)) q) docids minima dl
-    (λ k o. getD-set-other docids (a .i) k (place .docid) 0 (λ (e : k ≡ a .i). o (omega arith) (omega (arith, c .before .before .before .before .before .block-end .ensures)))) in
-    passed (a .i) (a .rest) gs are inside others (place .docid) (place .body) (c .before .before .before .before .before .before .place-from .ensures .0 (getD (cursors gs) (a .i) noCursor .left) (are .small) (are .hold .each (a .i) inside .list))
-    (set (a .mins .now) b m) (c .least-block .result) mins (c .least-block .ensures moved (omega (arith, are .hold .room .docid-room)) mins (passed-from (a .i) (a .rest) gs are inside others (place .docid) top low))
+    let ends : to ≡ min (a .n) (blockSize * b + blockSize) = omega (arith, c .before .before .before .before .before .block-end .ensures) in
+    let least = c .before .before .least-of .ensures ∙ ap (λ (x : ℕ). leastOf (part moved x to)) q in
+    let room = c .before .before .before .before .before .before .before .before .before .before .before .can-move .ensures .0 (not-false _ (c .before .before .before .before .before .before .before .before .before .before .if2 .left)) in (
+      λ masks follows gs are minima inside top others.
+          let mins : MinimaAre moved (a .n) (set (a .mins .now) b m) =
+          minima-set moved (a .mins .now) (a .n) b to m (omega (arith, are .hold .room .docid-room)) (minima .room) (omega arith) ends least docids minima dl
+          (λ k o. getD-set-other docids (a .i) k (place .docid) 0 (λ (e : k ≡ a .i). o (omega arith) (omega (arith, c .before .before .before .before .before .block-end .ensures)))) in
+          passed (a .i) (a .rest) gs are inside others (place .docid) (place .body) (c .before .before .before .before .before .before .place-from .ensures .0 (getD (cursors gs) (a .i) noCursor .left) (are .small) (are .hold .each (a .i) inside .list))
+          (set (a .mins .now) b m) (c .least-block .result) mins (c .least-block .ensures .1 moved (omega (arith, are .hold .room .docid-room)) mins (passed-from (a .i) (a .rest) gs are inside others (place .docid) top low)),
+      (
+        λ o. absurd (o (omega arith, record { docid-room = room .0; body-room = room .1; last-room = room .2; min-room = room .3 })),
+        λ inside h.
+            record {
+              docid = place .docid;
+              body = place .body;
+              reached = low;
+              stays = c .before .before .before .before .before .before .place-from .ensures .1 .1;
+              docids-are = refl;
+              bodies-are = refl;
+              mins-are = ap (set (a .mins .now) b) (least ∙ ap leastOf (sym (block-part moved (a .n) b (omega (arith, h .docid-room)) to ends)));
+              next-is = c .least-block .ensures .0;
+            },
+      ),
+    )
 
 pub pass-spec : {M : Type 1} → statement M
 pass-spec =

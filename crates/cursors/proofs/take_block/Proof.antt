@@ -10,6 +10,8 @@ use Prim.Native.Nat.{ℕ, _+_, _-_, _≤_, min}
 use native.Mathlib.Omega.{arith}
 use borrow.Author.Needs.{needs}
 use Rattle.cursors.specs.Groups.{Group}
+use Rattle.cursors.specs.Frames.{RowFrame}
+use Rattle.cursors.proofs.Framing.{frame-others, frame-hit}
 use Rattle.cursors.specs.declared.Scan.{Scan}
 use Rattle.cursors.proofs.take_block.Statement.{statement}
 use Rattle.cursors.proofs.take_block.Tie as tie
@@ -25,6 +27,8 @@ Inv-loop docid leaves docids₀ bodies₀ lasts masks follows from to starts₀ 
     × BlockTaken docids₀ docids from i scan
     × ((n : ℕ) (gs : List Group) (earlier : Scan) → to ≤ n → Scanned leaves docids₀ bodies₀ lasts masks follows n starts₀ matched₀ docid gs (joined earlier scan₀) from
     → Scanned leaves docids bodies lasts masks follows n starts matched docid gs (joined earlier scan) i)
+    × ((d b s m : List ℕ) → RowFrame docid from d docids₀ b bodies₀ s starts₀ m matched₀ (scan₀ .hits) (scan₀ .taken) (scan₀ .last)
+    → RowFrame docid i d docids b bodies s starts m matched (scan .hits) (scan .taken) (scan .last))
 
 abbrev μ-loop : tie.MeasureT-loop
 μ-loop docid leaves docids₀ bodies₀ lasts masks follows from to starts₀ matched₀ scan₀ i₀ docids bodies starts matched scan i =
@@ -37,7 +41,7 @@ loop-holds : tie.Need-loop-holds Inv-loop μ-loop
 loop-holds c =
     let a = c .before .before .before .before .before .before .before .before .before .args in
     let pre = c .before .before .before .before .before .before .before .before .before .pre in
-    (omega arith, pre .0, refl, refl, refl, refl, block-begun (a .docids .now) (a .from) (a .before) _ (c .begin-block .ensures) (pre .1) (pre .2), λ n gs earlier h p. p)
+    (omega arith, pre .0, refl, refl, refl, refl, block-begun (a .docids .now) (a .from) (a .before) _ (c .begin-block .ensures) (pre .1) (pre .2), λ n gs earlier h p. p, λ d b s m f. f)
 
 mul-at : tie.Need-mul-at Inv-loop μ-loop
 mul-at c = search needs
@@ -89,6 +93,9 @@ loop-again c =
           (sym (e ∙ ap (λ (b : Bool). overOther (l .scan) b at) (c .before .before .is-hidden .ensures)))
           (scanned-other (a .leaves .now) (l .docids) (l .bodies) (a .lasts .now) (a .masks .now) (a .follows .now) n (l .starts) (l .matched) (a .docid) gs (joined earlier (l .scan)) (l .i) (omega arith)
           (l .inv .7 n gs earlier h p) (min (earlier .rest) (min (l .scan .rest) at)) (min (earlier .moved) (l .scan .moved)) (c .before .if1 .taken) (omega arith) (omega arith)),
+      λ d b s m g.
+          subst (λ (x : Scan). RowFrame (a .docid) (l .i + 1) d (l .docids) b (l .bodies) s (l .starts) m (l .matched) (x .hits) (x .taken) (x .last)) (sym e)
+          (frame-others (l .inv .8 d b s m g) (l .i + 1) (omega arith)),
     )
 
 mul-starts : tie.Need-mul-starts Inv-loop μ-loop
@@ -184,6 +191,9 @@ loop-again-2 c =
           (l .inv .7 n gs earlier h p) (place .docid) (place .body) (min (earlier .moved) (min (l .scan .moved) (place .docid)))
           (omega (arith, f .docid-room)) (omega (arith, f .body-room)) (omega (arith, f .start-room, l .inv .6 .few-hits)) (omega (arith, f .matched-room, l .inv .6 .few-hits))
           (c .before .before .before .before .before .before .if1 .left) (c .before .entry-after .ensures .0)),
+      λ d b s m g.
+          subst (λ (x : Scan). RowFrame (a .docid) (l .i + 1) d (set (l .docids) (l .i) (place .docid)) b (set (l .bodies) (l .i) (place .body)) s (set (l .starts) (l .scan .hits) start) m (set (l .matched) (l .scan .hits) mask) (x .hits) (x .taken) (x .last)) (sym e)
+          (frame-hit (l .inv .8 d b s m g) (place .docid) (place .body) start mask (c .before .before .before .before .before .before .if1 .left) (c .before .before .before .before .before .before .before .is-hidden .result)),
     )
 
 same-length : tie.Need-same-length Inv-loop μ-loop
@@ -204,11 +214,17 @@ returns c =
     let a = c .before .before .before .before .before .before .before .before .before .before .before .args in
     let q : l .i ≡ a .to = omega (arith, l .inv .1 .block, c .loop-test .left) in (
       subst (λ (k : ℕ). BlockTaken (a .docids .now) (l .docids) (a .from) k (l .scan)) q (l .inv .6),
-      λ n gs earlier h p.
-          subst (Scanned (a .leaves .now) (l .docids) (l .bodies) (a .lasts .now) (a .masks .now) (a .follows .now) n (l .starts) (l .matched) (a .docid) gs (joined earlier (l .scan))) q
-          (l .inv .7 n gs earlier h
-          (subst (λ (s : Scan). Scanned (a .leaves .now) (a .docids .now) (a .bodies .now) (a .lasts .now) (a .masks .now) (a .follows .now) n (a .starts .now) (a .matched .now) (a .docid) gs (joined earlier s) (a .from))
-          (sym (c .before .before .begin-block .ensures)) p)),
+      (
+        λ n gs earlier h p.
+            subst (Scanned (a .leaves .now) (l .docids) (l .bodies) (a .lasts .now) (a .masks .now) (a .follows .now) n (l .starts) (l .matched) (a .docid) gs (joined earlier (l .scan))) q
+            (l .inv .7 n gs earlier h
+            (subst (λ (s : Scan). Scanned (a .leaves .now) (a .docids .now) (a .bodies .now) (a .lasts .now) (a .masks .now) (a .follows .now) n (a .starts .now) (a .matched .now) (a .docid) gs (joined earlier s) (a .from))
+            (sym (c .before .before .begin-block .ensures)) p)),
+        λ d b s m g.
+            subst (λ (k : ℕ). RowFrame (a .docid) k d (l .docids) b (l .bodies) s (l .starts) m (l .matched) (l .scan .hits) (l .scan .taken) (l .scan .last)) q
+            (l .inv .8 d b s m
+            (subst (λ (x : Scan). RowFrame (a .docid) (a .from) d (a .docids .now) b (a .bodies .now) s (a .starts .now) m (a .matched .now) (x .hits) (x .taken) (x .last)) (sym (c .before .before .begin-block .ensures)) g)),
+      ),
     )
 
 pub take-block-spec : {M : Type 1} → statement M
