@@ -297,9 +297,8 @@ module _ (ties distances columns : List ℕ) (from : ℕ) (leaves starts masks m
   decides-narrow h nodes c hits live docid words at row agrees room =
       absurd (omega (arith, ap length (words .columns-are), length-nodeMap (λ n. n .columns) nodes, length-ties nodes ties distances columns words))
 
-  pub decides-cramped : (length marks < markWords) ⊎ (length spare < markWords) → Decides ties distances columns from leaves starts masks marks spare false
-  decides-cramped h nodes c hits live docid words at row agrees room =
-      absurd (⊎-elim (λ l. omega (arith, room .marks-room)) (λ l. omega (arith, room .spare-room)) h)
+  pub decides-cramped : (Room marks spare → ⊥) → Decides ties distances columns from leaves starts masks marks spare false
+  decides-cramped h nodes c hits live docid words at row agrees room = absurd (h room)
 
   pub decides-single : chainEnd ties from ≡ from + 1 → (r : Bool)
       → ((hits : List Hit) → WholeRow leaves starts masks hits → (r ≡ true) ↔ SomeAllowed (candidates from hits) (getD columns from 0))
@@ -312,9 +311,9 @@ module _ (ties distances columns : List ℕ) (from : ℕ) (leaves starts masks m
       let s = some hits (row .row) in
       (λ t. h .1 (g .0 (s .0 t)), λ t. s .1 (g .1 (h .0 t)))
 
-  pub decides-several : from + 1 < chainEnd ties from → (r : Bool) → Continues ties distances columns from (from + 1) true leaves starts masks marks spare r
+  pub decides-several : from + 1 < chainEnd ties from → (before put : List ℕ) → Room before put → (r : Bool) → Continues ties distances columns from (from + 1) true leaves starts masks before put r
       → Decides ties distances columns from leaves starts masks marks spare r
-  decides-several e r go nodes c hits live docid words at row agrees room =
+  decides-several e before put given r go nodes c hits live docid words at row agrees room =
       let f = first-is ties distances columns from nodes words c at in
       let h = holds-first ties distances columns from nodes words c at leaves starts masks hits live docid row agrees in
       let n : Node = record { tie = begins; word = f .word; columns = c .first .columns } in
@@ -328,7 +327,7 @@ module _ (ties distances columns : List ℕ) (from : ℕ) (leaves starts masks m
         begins = at .begins;
         filled = at .filled .1;
       })
-      row agrees room
+      row agrees given
       (λ j s k t. t)
       (inl (several-more ties distances columns from nodes words c at e)) in
       (λ t. h .1 (subst (λ (X : Type 0). X) m (q .0 t)), λ t. q .1 (subst (λ (X : Type 0). X) (sym m) (h .0 t)))

@@ -9,3 +9,4 @@ pub mod Stepping
 pub mod Nodes
 pub mod Going
 pub mod Chaining
+pub mod Rooms

@@ -14,6 +14,7 @@ use Rattle.query.specs.Tree.{Link, Chain, chainNodes}
 use Rattle.meaning.specs.Satisfies.{Live, StandsAt, Standing, ChainHolds}
 use Rattle.row.specs.Row.{Hit, StandsIn, bodiesSize}
 use Rattle.row.specs.Walk.{WholeRow}
+use Rattle.row.specs.Frame.{KeptFrom}
 
 -- ---- the words of a query
 
@@ -101,3 +102,23 @@ Decides ties distances columns from leaves starts masks marks spare r =
     → Agrees (StandsAt live docid) nodes hits
     → Room marks spare
     → (r ≡ true) ↔ ChainHolds (StandsAt live docid) c
+
+-- ---- whatever the arrays hold
+
+-- the arrays are long enough: for the chain's first word, for the words, and to work in
+pub record Given (ties distances columns : List ℕ) (from : ℕ) (marks spare : List ℕ) : Type 0 where
+  pub inside : from < length ties
+  pub distance-room : length ties ≤ length distances
+  pub column-room : length ties ≤ length columns
+  pub room : Room marks spare
+
+-- the answer is no, and the rooms are as they were
+pub record Refused (marks₀ marks spare₀ spare : List ℕ) (r : Bool) : Type 0 where
+  pub answer : r ≡ false
+  pub marks-same : marks ≡ marks₀
+  pub spare-same : spare ≡ spare₀
+
+-- only the words to work in have changed
+pub record RoomsKept (marks₀ marks spare₀ spare : List ℕ) : Type 0 where
+  pub marks-kept : KeptFrom markWords marks₀ marks
+  pub spare-kept : KeptFrom markWords spare₀ spare

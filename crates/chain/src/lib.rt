@@ -12,7 +12,7 @@ ghost use lib.ListN.{length};
 ghost use Rattle.row.specs.Row.{Hit};
 ghost use Rattle.row.specs.Walk.{WholeRow, candidates};
 ghost use Rattle.doclist.specs.Doclist.{positionLimit};
-ghost use Rattle.chain.specs.Chains.{RowFits, bitWords, markWords, runEnd, chainEnd, Decides};
+ghost use Rattle.chain.specs.Chains.{RowFits, bitWords, markWords, runEnd, chainEnd, Decides, Given, Refused, RoomsKept};
 ghost use Rattle.chain.specs.Keys.{Ordered, Bound, SomeKey, Inserts};
 ghost use Rattle.chain.specs.Reaching.{marked, oldOf, wordWith, putAt, distanceAt, SomeAllowed, Bounded, Told, InWindow, Pushes, sourceOf, Marks, Steps, windowOf, startOf};
 ghost use Rattle.chain.specs.Going.{Continues};
@@ -28,6 +28,9 @@ pub const MARK_WORDS: usize = 2048;
 
 // The bits of a word.
 const WORD_BITS: usize = 64;
+
+// The answer where the arrays are too short.
+const TOO_SHORT: bool = false;
 
 // How a word is tied to the one before: it is the next of its phrase.
 const CONTINUES: u8 = 1;
@@ -470,15 +473,11 @@ fn several(
     marks: &mut [u64],
     spare: &mut [u64],
 ) -> bool
-    requires { ⌜ (from < length (now ties)) × (length (now ties) ≤ length (now distances)) × (length (now ties) ≤ length (now columns)) × (from + 1 < chainEnd (now ties) from) ⌝ }
-    ensures { λ r. ⌜ Decides (now (ties .entry)) (now (distances .entry)) (now (columns .entry)) from (now (leaves .entry)) (now (starts .entry)) (now (masks .entry)) (now (marks .entry)) (now (spare .entry)) r ⌝ }
+    requires { ⌜ Given (now ties) (now distances) (now columns) from (now marks) (now spare) × (from + 1 < chainEnd (now ties) from) ⌝ }
+    ensures content { λ r. ⌜ Decides (now (ties .entry)) (now (distances .entry)) (now (columns .entry)) from (now (leaves .entry)) (now (starts .entry)) (now (masks .entry)) (now (marks .entry)) (now (spare .entry)) r ⌝ }
+    ensures frame { λ _. ⌜ RoomsKept (now (marks .entry)) (now (marks .exit)) (now (spare .entry)) (now (spare .exit)) ⌝ }
 {
-    if marks.len() < MARK_WORDS {
-        return false;
-    }
-    if spare.len() < MARK_WORDS {
-        return false;
-    }
+    let end = MARK_WORDS;
     links(
         ties,
         distances,
@@ -489,8 +488,8 @@ fn several(
         leaves,
         starts,
         masks,
-        marks,
-        spare,
+        &mut marks[..end],
+        &mut spare[..end],
     )
 }
 
@@ -508,16 +507,25 @@ pub fn holds(
     marks: &mut [u64],
     spare: &mut [u64],
 ) -> bool
-    ensures { λ r. ⌜ Decides (now (ties .entry)) (now (distances .entry)) (now (columns .entry)) from (now (leaves .entry)) (now (starts .entry)) (now (masks .entry)) (now (marks .entry)) (now (spare .entry)) r ⌝ }
+    ensures content { λ r. ⌜ Decides (now (ties .entry)) (now (distances .entry)) (now (columns .entry)) from (now (leaves .entry)) (now (starts .entry)) (now (masks .entry)) (now (marks .entry)) (now (spare .entry)) r ⌝ }
+    ensures single { λ _. ⌜ (chainEnd (now (ties .entry)) from ≡ from + 1 → (now (marks .exit) ≡ now (marks .entry)) × (now (spare .exit) ≡ now (spare .entry))) ⌝ }
+    ensures otherwise { λ r. ⌜ ((Given (now (ties .entry)) (now (distances .entry)) (now (columns .entry)) from (now (marks .entry)) (now (spare .entry)) → ⊥) → Refused (now (marks .entry)) (now (marks .exit)) (now (spare .entry)) (now (spare .exit)) r) ⌝ }
+    ensures frame { λ _. ⌜ RoomsKept (now (marks .entry)) (now (marks .exit)) (now (spare .entry)) (now (spare .exit)) ⌝ }
 {
     if ties.len() <= from {
-        return false;
+        return TOO_SHORT;
     }
     if distances.len() < ties.len() {
-        return false;
+        return TOO_SHORT;
     }
     if columns.len() < ties.len() {
-        return false;
+        return TOO_SHORT;
+    }
+    if marks.len() < MARK_WORDS {
+        return TOO_SHORT;
+    }
+    if spare.len() < MARK_WORDS {
+        return TOO_SHORT;
     }
     if chain_end(ties, from) == from + 1 {
         return stands_in(leaves, starts, masks, from, columns[from]);
