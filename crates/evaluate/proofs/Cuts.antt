@@ -1,9 +1,8 @@
 -- The arrays of a compiled query and of a row, cut to their lengths.
-use Prim.Native.Nat.{ℕ, _-_, _≤_, _<_}
+use Prim.Native.Nat.{ℕ, _-_, _≤_}
 use native.Mathlib.Omega.{arith}
 use mathlib.Core.Path.{_≡_, sym, ap, _∙_, subst}
 use mathlib.Core.Bool.{Bool, false}
-use mathlib.Core.Logic.{_⊎_, ⊎-elim}
 use mathlib.Core.List.{List, [], _∷_}
 use lib.ListN.{length, take, replicate, length-append}
 use lib.Seq.{take-at, length-take-le}
@@ -12,7 +11,7 @@ use Rattle.query.specs.Tree.{Tree, treeNodes, postfix}
 use Rattle.row.specs.Row.{Hit, RowIs}
 use Rattle.chain.specs.Chains.{WordsAre, RowFits}
 use Rattle.chain.proofs.Nodes.{length-nodeMap}
-use Rattle.evaluate.specs.Evaluate.{Compiled, RowGiven, Decides, Runs}
+use Rattle.evaluate.specs.Evaluate.{Compiled, RowGiven, Decides, Given, Runs}
 
 -- ---- the query
 
@@ -96,13 +95,16 @@ module _ (ties distances columns : List ℕ) (count : ℕ) (codes : List ℕ) (l
       agrees room
 
   -- arrays that are too short are none of a compiled query, nor of a row
-  pub decides-none : (length ties < count) ⊎ ((length distances < count) ⊎ ((length columns < count) ⊎ ((length codes < len) ⊎ ((length starts < found) ⊎ (length masks < found)))))
-      → Decides ties distances columns count codes len leaves starts masks found marks spare false
+  pub decides-none : (Given ties distances columns count codes len starts masks found marks spare → ⊥) → Decides ties distances columns count codes len leaves starts masks found marks spare false
   decides-none short tree hits live docid fit c g agrees room =
       absurd
-      (⊎-elim (λ h. omega (arith, ties-room tree ties distances columns count codes len c))
-      (⊎-elim (λ h. omega (arith, distances-room tree ties distances columns count codes len c))
-      (⊎-elim (λ h. omega (arith, columns-room tree ties distances columns count codes len c))
-      (⊎-elim (λ h. omega (arith, codes-room tree ties distances columns count codes len c))
-      (⊎-elim (λ h. omega (arith, starts-room leaves starts masks found hits g)) (λ h. omega (arith, masks-room leaves starts masks found hits g))))))
-      short)
+      (short
+      (record {
+        tie-room = ties-room tree ties distances columns count codes len c;
+        distance-room = distances-room tree ties distances columns count codes len c;
+        column-room = columns-room tree ties distances columns count codes len c;
+        code-room = codes-room tree ties distances columns count codes len c;
+        start-room = starts-room leaves starts masks found hits g;
+        mask-room = masks-room leaves starts masks found hits g;
+        room = room;
+      }))

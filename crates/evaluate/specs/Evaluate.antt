@@ -54,6 +54,16 @@ Decides ties distances columns count codes len leaves starts masks found marks s
     → Room marks spare
     → (r ≡ true) ↔ Satisfies live docid tree
 
+-- whatever the arrays hold: they are long enough for the words, the codes and the hits, and to work in
+pub record Given (ties distances columns : List ℕ) (count : ℕ) (codes : List ℕ) (len : ℕ) (starts masks : List ℕ) (found : ℕ) (marks spare : List ℕ) : Type 0 where
+  pub tie-room : count ≤ length ties
+  pub distance-room : count ≤ length distances
+  pub column-room : count ≤ length columns
+  pub code-room : len ≤ length codes
+  pub start-room : found ≤ length starts
+  pub mask-room : found ≤ length masks
+  pub room : Room marks spare
+
 -- the same of arrays that are cut to their lengths
 abbrev pub Runs : (ties distances columns codes leaves starts masks marks spare : List ℕ) → Bool → Type 0
 Runs ties distances columns codes leaves starts masks marks spare r =

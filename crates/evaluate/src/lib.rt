@@ -2,7 +2,8 @@
 ghost use mathlib.Core.Path.{_≡_};
 ghost use Prim.Native.Nat.{_≤_};
 ghost use Rattle.lexer.specs.Token.{maxWords};
-ghost use Rattle.evaluate.specs.Evaluate.{Decides, Runs, pushed, combined, applied, topOf};
+ghost use Rattle.chain.specs.Chains.{Refused, RoomsKept};
+ghost use Rattle.evaluate.specs.Evaluate.{Decides, Given, Runs, pushed, combined, applied, topOf};
 ghost use Rattle.evaluate.specs.Needs.{conjunctive, firstWords, needsOf, Needed};
 
 // The codes of a compiled query. What is none of them is taken as NOT.
@@ -14,6 +15,9 @@ const CODE_OR: u8 = 2;
 
 // A query has no more words than this.
 const MAX_WORDS: usize = 16;
+
+// The answer where the arrays are too short.
+const TOO_SHORT: bool = false;
 
 // The stack keeps 31 bits when one more is pushed; 16 chains never need more than 16.
 const KEPT: u32 = 0x8000_0000;
@@ -67,7 +71,8 @@ fn run(
     marks: &mut [u64],
     spare: &mut [u64],
 ) -> bool
-    ensures { λ r. ⌜ Runs (now (ties .entry)) (now (distances .entry)) (now (columns .entry)) (now (codes .entry)) (now (leaves .entry)) (now (starts .entry)) (now (masks .entry)) (now (marks .entry)) (now (spare .entry)) r ⌝ }
+    ensures content { λ r. ⌜ Runs (now (ties .entry)) (now (distances .entry)) (now (columns .entry)) (now (codes .entry)) (now (leaves .entry)) (now (starts .entry)) (now (masks .entry)) (now (marks .entry)) (now (spare .entry)) r ⌝ }
+    ensures frame { λ _. ⌜ RoomsKept (now (marks .entry)) (now (marks .exit)) (now (spare .entry)) (now (spare .exit)) ⌝ }
 {
     let mut stack: u32 = 0;
     let mut word: usize = 0;
@@ -115,25 +120,33 @@ pub fn holds(
     marks: &mut [u64],
     spare: &mut [u64],
 ) -> bool
-    ensures { λ r. ⌜ Decides (now (ties .entry)) (now (distances .entry)) (now (columns .entry)) count (now (codes .entry)) len (now (leaves .entry)) (now (starts .entry)) (now (masks .entry)) hits (now (marks .entry)) (now (spare .entry)) r ⌝ }
+    ensures content { λ r. ⌜ Decides (now (ties .entry)) (now (distances .entry)) (now (columns .entry)) count (now (codes .entry)) len (now (leaves .entry)) (now (starts .entry)) (now (masks .entry)) hits (now (marks .entry)) (now (spare .entry)) r ⌝ }
+    ensures otherwise { λ r. ⌜ ((Given (now (ties .entry)) (now (distances .entry)) (now (columns .entry)) count (now (codes .entry)) len (now (starts .entry)) (now (masks .entry)) hits (now (marks .entry)) (now (spare .entry)) → ⊥) → Refused (now (marks .entry)) (now (marks .exit)) (now (spare .entry)) (now (spare .exit)) r) ⌝ }
+    ensures frame { λ _. ⌜ RoomsKept (now (marks .entry)) (now (marks .exit)) (now (spare .entry)) (now (spare .exit)) ⌝ }
 {
     if ties.len() < count {
-        return false;
+        return TOO_SHORT;
     }
     if distances.len() < count {
-        return false;
+        return TOO_SHORT;
     }
     if columns.len() < count {
-        return false;
+        return TOO_SHORT;
     }
     if codes.len() < len {
-        return false;
+        return TOO_SHORT;
     }
     if starts.len() < hits {
-        return false;
+        return TOO_SHORT;
     }
     if masks.len() < hits {
-        return false;
+        return TOO_SHORT;
+    }
+    if marks.len() < chain::MARK_WORDS {
+        return TOO_SHORT;
+    }
+    if spare.len() < chain::MARK_WORDS {
+        return TOO_SHORT;
     }
     run(
         &ties[..count],
