@@ -5,6 +5,7 @@ pub mod Firsts
 pub mod Seeking
 pub mod Orders
 pub mod Choosing
+pub mod Framing
 pub mod Taking
 pub mod Starting
 pub mod Words

@@ -1,15 +1,16 @@
 -- What a search starts from: the posting lists of every index word that some word of the query matches. An index word's
 -- group has its lists in all leaves that have the word, newest leaf first.
-use Prim.Native.Nat.{ℕ, _+_, _≤_}
+use Prim.Native.Nat.{ℕ, _+_, _≤_, _<_}
 use mathlib.Core.Path.{_≡_}
 use mathlib.Core.List.{List, [], _∷_, _++_, map, List·Memᴰ}
-use lib.ListN.{length}
+use lib.ListN.{length, getD}
 use Rattle.common.specs.Pick.{pick}
 use Rattle.common.specs.Bytes.{same}
 use Rattle.offsets.specs.Cut.{Cuts, cut}
 use Rattle.doclist.specs.Doclist.{Entry, encodeList}
 use Rattle.leaf.specs.Leaf.{Term, WellFormed, encodeLeaf}
 use Rattle.lexer.specs.Token.{Node}
+use Rattle.row.specs.Frame.{KeptFrom}
 use Rattle.cursors.specs.Groups.{Group}
 use Rattle.cursors.specs.Arrays.{maxLeaves, CursorsAre}
 use Rattle.merge.specs.Matching.{maskOf}
@@ -76,3 +77,34 @@ pub record Opened (nodes : List Node) (leaves : List (List Term)) (bytes docids 
   pub groups : List Group
   pub groups-are : GroupsOf nodes leaves (length bytes) groups
   pub cursors-are : CursorsAre bytes docids bodies lasts masks follows n groups
+
+-- ---- whatever the leaves and the arrays hold
+
+-- the leaves can be merged: they are cut, few and small, and each array is as long as the first
+pub record Mergeable (bytes ends docids bodies lasts masks follows : List ℕ) : Type 0 where
+  pub cuts : Cuts bytes ends
+  pub few : length ends ≤ mostLeaves
+  pub small : length bytes ≤ maxLeaves
+  pub body-room : length docids ≤ length bodies
+  pub last-room : length docids ≤ length lasts
+  pub mask-room : length docids ≤ length masks
+  pub follow-room : length docids ≤ length follows
+
+-- no cursor is made, and every array is as it was
+pub record NotOpened (docids₀ docids bodies₀ bodies lasts₀ lasts masks₀ masks follows₀ follows : List ℕ) (n : ℕ) : Type 0 where
+  pub answer : n ≡ 0
+  pub docids-same : docids ≡ docids₀
+  pub bodies-same : bodies ≡ bodies₀
+  pub lasts-same : lasts ≡ lasts₀
+  pub masks-same : masks ≡ masks₀
+  pub follows-same : follows ≡ follows₀
+
+-- the first n places are written, and no others; each has a word of the query, and is the first of its group or follows others
+pub record OpenFrame (docids₀ docids bodies₀ bodies lasts₀ lasts masks₀ masks follows₀ follows : List ℕ) (n : ℕ) : Type 0 where
+  pub few : n ≤ length docids₀
+  pub docids-kept : KeptFrom n docids₀ docids
+  pub bodies-kept : KeptFrom n bodies₀ bodies
+  pub lasts-kept : KeptFrom n lasts₀ lasts
+  pub masks-kept : KeptFrom n masks₀ masks
+  pub follows-kept : KeptFrom n follows₀ follows
+  pub each : (k : ℕ) → k < n → (getD masks k 0 ≡ 0 → ⊥) × (getD follows k 0 ≤ 1)

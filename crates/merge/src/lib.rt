@@ -21,7 +21,7 @@ ghost use Rattle.lexer.specs.Token.{Node};
 ghost use Rattle.cursors.specs.Arrays.{Cursor, Hold, maxLeaves};
 ghost use Rattle.merge.specs.Matching.{beginsWith, matchesOf, maskOf, NodeAt, WordsAre};
 ghost use Rattle.merge.specs.Fronts.{wordOf, skipTo, FrontHas, FrontIs, beforeOf, isEarlier, hasWord, frontAt, LeastIs, headLists, FrontsAre, Able, WordTaken, allSkipped};
-ghost use Rattle.merge.specs.Opening.{mostLeaves, AreLeaves, LeavesAre, wordSize, Opened};
+ghost use Rattle.merge.specs.Opening.{mostLeaves, AreLeaves, LeavesAre, wordSize, Opened, Mergeable, NotOpened, OpenFrame};
 
 // A query has at most 16 words.
 const MAX_WORDS: usize = 16;
@@ -33,6 +33,9 @@ const PLAIN: u8 = 0;
 const LEADS: u8 = 0;
 
 const FOLLOWS: u8 = 1;
+
+// The answer where the leaves can't be merged.
+const NO_CURSORS: usize = 0;
 
 // The first word of a leaf stands behind the height.
 const FIRST_WORD: usize = 1;
@@ -401,6 +404,7 @@ fn take_word(
     requires { ⌜ Able (now leaves) (now ends) given (now docids) (now bodies) (now lasts) (now masks) (now follows) from × (front .size ≤ 64) ⌝ }
     ensures able { λ r. ⌜ Able (now (leaves .entry)) (now (ends .entry)) (r .fronts) (now (docids .entry)) (now (bodies .entry)) (now (lasts .entry)) (now (masks .entry)) (now (follows .entry)) (r .n) × (from ≤ r .n) ⌝ }
     ensures content { λ r. ⌜ ((nodes : List Node) (columns : ℕ) (left : List (List Term)) (cs : List Cursor) → WordsAre (now (text .entry)) (now (stops .entry)) (now (marks .entry)) count nodes → FrontsAre nodes columns (now (leaves .entry)) (now (ends .entry)) given left → Hold (now (leaves .entry)) (now (docids .entry)) (now (bodies .entry)) (now (lasts .entry)) (now (masks .entry)) (now (follows .entry)) from cs → from + length (headLists (wordOf front) left) ≤ length (now (docids .entry)) → WordTaken nodes columns (wordOf front) (now (leaves .entry)) (now (ends .entry)) (now (docids .exit)) (now (bodies .exit)) (now (lasts .exit)) (now (masks .exit)) (now (follows .exit)) left cs r) ⌝ }
+    ensures frame { λ r. ⌜ ((docids₀ bodies₀ lasts₀ masks₀ follows₀ : List ℕ) → length docids₀ ≡ length (now (docids .entry)) → OpenFrame docids₀ (now (docids .entry)) bodies₀ (now (bodies .entry)) lasts₀ (now (lasts .entry)) masks₀ (now (masks .entry)) follows₀ (now (follows .entry)) from → OpenFrame docids₀ (now (docids .exit)) bodies₀ (now (bodies .exit)) lasts₀ (now (lasts .exit)) masks₀ (now (masks .exit)) follows₀ (now (follows .exit)) (r .n)) ⌝ }
 {
     let mut fronts = given;
     let mut n = from;
@@ -467,7 +471,9 @@ pub fn open(
     masks: &mut [u16],
     follows: &mut [u8],
 ) -> usize
-    ensures { λ n. ⌜ ((nodes : List Node) (columns : ℕ) (terms : List (List Term)) → WordsAre (now (text .entry)) (now (stops .entry)) (now (marks .entry)) count nodes → LeavesAre columns (now (leaves .entry)) (now (ends .entry)) terms → length (now (leaves .entry)) < wordSize * (length (now (docids .entry)) + 1) → length (now (docids .entry)) ≤ length (now (bodies .entry)) → length (now (docids .entry)) ≤ length (now (lasts .entry)) → length (now (docids .entry)) ≤ length (now (masks .entry)) → length (now (docids .entry)) ≤ length (now (follows .entry)) → Opened nodes terms (now (leaves .entry)) (now (docids .exit)) (now (bodies .exit)) (now (lasts .exit)) (now (masks .exit)) (now (follows .exit)) n) ⌝ }
+    ensures content { λ n. ⌜ ((nodes : List Node) (columns : ℕ) (terms : List (List Term)) → WordsAre (now (text .entry)) (now (stops .entry)) (now (marks .entry)) count nodes → LeavesAre columns (now (leaves .entry)) (now (ends .entry)) terms → length (now (leaves .entry)) < wordSize * (length (now (docids .entry)) + 1) → length (now (docids .entry)) ≤ length (now (bodies .entry)) → length (now (docids .entry)) ≤ length (now (lasts .entry)) → length (now (docids .entry)) ≤ length (now (masks .entry)) → length (now (docids .entry)) ≤ length (now (follows .entry)) → Opened nodes terms (now (leaves .entry)) (now (docids .exit)) (now (bodies .exit)) (now (lasts .exit)) (now (masks .exit)) (now (follows .exit)) n) ⌝ }
+    ensures otherwise { λ n. ⌜ ((Mergeable (now (leaves .entry)) (now (ends .entry)) (now (docids .entry)) (now (bodies .entry)) (now (lasts .entry)) (now (masks .entry)) (now (follows .entry)) → ⊥) → NotOpened (now (docids .entry)) (now (docids .exit)) (now (bodies .entry)) (now (bodies .exit)) (now (lasts .entry)) (now (lasts .exit)) (now (masks .entry)) (now (masks .exit)) (now (follows .entry)) (now (follows .exit)) n) ⌝ }
+    ensures frame { λ n. ⌜ OpenFrame (now (docids .entry)) (now (docids .exit)) (now (bodies .entry)) (now (bodies .exit)) (now (lasts .entry)) (now (lasts .exit)) (now (masks .entry)) (now (masks .exit)) (now (follows .entry)) (now (follows .exit)) n ⌝ }
 {
     if !is_able(
         leaves,
@@ -478,7 +484,7 @@ pub fn open(
         masks.len(),
         follows.len(),
     ) {
-        return 0;
+        return NO_CURSORS;
     }
     let mut fronts = fronts_of(text, stops, marks, count, leaves, ends);
     let mut n: usize = 0;

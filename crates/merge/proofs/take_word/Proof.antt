@@ -8,6 +8,8 @@ use Rattle.leaf.specs.Leaf.{Term}
 use Rattle.cursors.specs.Arrays.{Cursor, Hold}
 use Rattle.merge.specs.Matching.{WordsAre}
 use Rattle.merge.specs.Fronts.{wordOf, frontAt, headLists, FrontsAre, Able}
+use Rattle.merge.specs.Opening.{OpenFrame}
+use Rattle.merge.proofs.Framing.{has-mask, frame-more}
 use mathlib.Core.Path.{_≡_, refl, sym, _∙_}
 use mathlib.Core.List.{List}
 use mathlib.Core.Bool.{true, false}
@@ -29,6 +31,8 @@ Inv-loop text stops marks count leaves ends front docids₀ bodies₀ lasts₀ m
     × ((nodes : List Node) (columns : ℕ) (left : List (List Term)) (cs : List Cursor) → WordsAre text stops marks count nodes → FrontsAre nodes columns leaves ends fronts₀ left
     → Hold leaves docids₀ bodies₀ lasts₀ masks₀ follows₀ from cs → from + length (headLists (wordOf front) left) ≤ length docids₀
     → Taking nodes columns (wordOf front) leaves ends left cs docids bodies lasts masks follows fronts n follow j)
+    × (follow ≤ 1)
+    × ((d b l m f : List ℕ) → length d ≡ length docids₀ → OpenFrame d docids₀ b bodies₀ l lasts₀ m masks₀ f follows₀ from → OpenFrame d docids b bodies l lasts m masks f follows n)
 
 abbrev μ-loop : tie.MeasureT-loop
 μ-loop text stops marks count leaves ends front docids₀ bodies₀ lasts₀ masks₀ follows₀ from fronts₀ n₀ follow₀ j₀ docids bodies lasts masks follows fronts n follow j = length ends - j
@@ -43,6 +47,8 @@ loop-holds c =
       p .1,
       record { docid-length = refl; body-length = refl; last-length = refl; mask-length = refl; follow-length = refl },
       λ nodes columns left cs w f h r. taking-start (wordOf (c .before .before .before .before .before .before .before .before .before .before .args .front)) f h,
+      omega arith,
+      λ d b l m f z g. g,
     )
 
 mul-other : tie.Need-mul-other Inv-loop μ-loop
@@ -73,6 +79,8 @@ loop-again c =
       λ nodes columns left cs w f h r.
           taking-other nodes columns (a .leaves .now) (a .ends .now) left cs (l .docids) (l .bodies) (l .lasts) (l .masks) (l .follows) (l .fronts) (l .n) (l .follow) (l .j) (a .front)
           (c .before .before .before .loop-test .taken) (l .inv .6 nodes columns left cs w f h r) (sym (c .before .has-word .ensures) ∙ not-true _ (c .if1 .taken)),
+      l .inv .7,
+      l .inv .8,
     )
 
 same-length : tie.Need-same-length Inv-loop μ-loop
@@ -95,10 +103,13 @@ returns c =
     let l = c .before .before .before .before .before .loop in
     let a = c .before .before .before .before .before .before .before .before .before .before .before .before .before .before .before .before .args in (
       (l .inv .0, l .inv .1),
-      λ nodes columns left cs w f h r.
-          let t = taking-room nodes columns (a .leaves .now) (a .ends .now) left cs (l .docids) (l .bodies) (l .lasts) (l .masks) (l .follows) (l .fronts) (l .n) (l .follow) (l .j) (a .front)
-          (c .before .before .before .before .loop-test .taken) (l .inv .6 nodes columns left cs w f h r) (sym (c .before .before .has-word .ensures) ∙ not-false _ (c .before .if1 .left)) (omega (arith, h .count, l .inv .5 .docid-length)) in
-          absurd (omega (arith, c .if2 .taken)),
+      (
+        λ nodes columns left cs w f h r.
+            let t = taking-room nodes columns (a .leaves .now) (a .ends .now) left cs (l .docids) (l .bodies) (l .lasts) (l .masks) (l .follows) (l .fronts) (l .n) (l .follow) (l .j) (a .front)
+            (c .before .before .before .before .loop-test .taken) (l .inv .6 nodes columns left cs w f h r) (sym (c .before .before .has-word .ensures) ∙ not-false _ (c .before .if1 .left)) (omega (arith, h .count, l .inv .5 .docid-length)) in
+            absurd (omega (arith, c .if2 .taken)),
+        l .inv .8,
+      ),
     )
 
 push-requires : tie.Need-push-requires Inv-loop μ-loop
@@ -160,6 +171,11 @@ loop-again-2 c =
           (omega (arith, room)) (omega (arith, room, z .docid-length, z .body-length, b .body-room)) (omega (arith, room, z .docid-length, z .last-length, b .last-room)) (omega (arith, room, z .docid-length, z .mask-length, b .mask-room)) (omega (arith, room, z .docid-length, z .follow-length, b .follow-room))
           (omega (arith, l .inv .3, b .few, t))
           (sought-as (c .before .before .part .ensures) (c .before .leaf-start .ensures) (λ ts rs. c .seek .ensures .1 nodes columns ts w rs))),
+      omega arith,
+      λ d bo la m fo e g.
+          frame-more (l .inv .8 d bo la m fo e g) (f .docid) (f .body) (f .last) (f .mask) (l .follow) (omega (arith, room, z .docid-length, e)) (omega (arith, room, z .docid-length, z .mask-length, b .mask-room)) (omega (arith, room, z .docid-length, z .follow-length, b .follow-room))
+          (has-mask f (a .front) (sym (c .before .before .before .before .before .before .before .before .before .before .before .before .before .before .before .before .before .before .before .before .before .has-word .ensures) ∙ not-false _ (c .before .before .before .before .before .before .before .before .before .before .before .before .before .before .before .before .before .before .before .before .if1 .left)))
+          (l .inv .7) (p .0) (p .1) (p .2) (p .3) (p .4),
     )
 
 same-length-6 : tie.Need-same-length-6 Inv-loop μ-loop
@@ -182,7 +198,7 @@ returns-2 c =
     let l = c .before .loop in
     let a = c .before .before .before .before .before .before .before .before .before .before .before .before .args in (
       (l .inv .0, l .inv .1),
-      λ nodes columns left cs w f h r. taking-end (l .j) (c .loop-test .left) (l .inv .6 nodes columns left cs w f h r),
+      (λ nodes columns left cs w f h r. taking-end (l .j) (c .loop-test .left) (l .inv .6 nodes columns left cs w f h r), l .inv .8),
     )
 
 pub take-word-spec : {M : Type 1} → statement M
