@@ -32,7 +32,7 @@ least-requires : tie.Need-least-requires Inv-loop μ-loop
 least-requires c κs = search needs
 
 loop-holds : tie.Need-loop-holds Inv-loop μ-loop
-loop-holds c = going-start (c .least .ensures .1) (c .before .before .before .minima .ensures) (c .before .before .before .before .before .before .before .before .before .before .before .before .before .before .before .before .before .pre) (c .before .before .before .minima .kept .1 .1 .0) refl refl refl refl
+loop-holds c = going-start (c .least .ensures .1) (c .before .before .before .minima .ensures .0) (c .before .before .before .before .before .before .before .before .before .before .before .before .before .before .before .before .before .pre) (c .before .before .before .minima .kept .1 .1 .0) refl refl refl refl
 
 enum-known-next : tie.Need-enum-known-next Inv-loop μ-loop
 enum-known-next c = search needs

@@ -56,13 +56,13 @@ rows-requires : tie.Need-rows-requires
 rows-requires c κs = c .before .before .before .before .before .before .before .before .before .before .before .before .before .before .before .before .before .before .before .before .before .before .before .before .before .clear .ensures ∙ ap zeros (sym (c .before .before .before .before .before .before .before .before .before .before .before .before .before .before .before .before .before .before .before .before .before .before .before .before .before .clear .kept .0))
 
 same-length : tie.Need-same-length
-same-length c = search needs
+same-length c = c .before .before .before .rows .kept .1 .1 .1 .1 .1 .1 .1 .1 .0 ∙ c .before .before .before .before .before .before .before .before .before .before .before .before .before .before .before .before .before .before .before .before .before .before .before .before .before .before .before .before .before .clear .kept .0
 
 returns : tie.Need-returns
 returns c =
     let o = c .before .before .before .before .before .before .before .before .before .before .before .before .before .before .before .«open» in
     let s = c .before .before .before .before .before .before .before .before .before .before .before .before .before .before .before .before .before .before .before .before .before .before .before .before .before .before .before .before .before .clear .kept .0 in
-    rw (← s) (ran {query = c .before .before .before .before .before .before .before .before .before .before .before .before .before .before .before .before .before .before .before .before .before .before .before .before .before .before .before .before .before .before .before .before .before .args .query} (λ nodes columns terms w l. o .ensures nodes columns terms w l (omega (arith, l .small)) (omega arith) (omega arith) (omega arith) (omega arith)) (o .kept .1 .1 .1 .1 .1 .1 .0) (c .before .before .before .rows .ensures))
+    rw (← s) (ran {query = c .before .before .before .before .before .before .before .before .before .before .before .before .before .before .before .before .before .before .before .before .before .before .before .before .before .before .before .before .before .before .before .before .before .args .query} (λ nodes columns terms w l. o .ensures .0 nodes columns terms w l (omega (arith, l .small)) (omega arith) (omega arith) (omega arith) (omega arith)) (o .kept .1 .1 .1 .1 .1 .1 .0) (c .before .before .before .rows .ensures))
 
 pub run-spec : {M : Type 1} → statement M
 run-spec =
