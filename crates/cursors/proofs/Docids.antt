@@ -18,7 +18,7 @@ use Rattle.cursors.proofs.Each.{Each, Ordered, hold-ordered, each-every
 
 -- ---- one more docid
 
-least-most : (ds : List ℕ) → leastOf ds ≤ finished
+pub least-most : (ds : List ℕ) → leastOf ds ≤ finished
 least-most [] = omega arith
 least-most (d ∷ ds) = let h = least-most ds in omega arith
 

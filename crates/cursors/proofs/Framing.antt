@@ -3,11 +3,11 @@
 use Prim.Native.Nat.{ℕ, zero, suc, _+_, _≤_, _<_, min}
 use native.Mathlib.Omega.{arith}
 use native.Mathlib.Numerals.{add-one}
-use mathlib.Core.Path.{_≡_, refl, sym, ap, _∙_}
+use mathlib.Core.Path.{_≡_, refl, sym, ap, _∙_, subst}
 use mathlib.Core.Bool.{Bool, true, false}
 use mathlib.Core.List.{List, [], _∷_}
 use lib.ListN.{length, getD, drop, set}
-use lib.Seq.{drop-cons, drop-length, getD-set-other}
+use lib.Seq.{drop-cons, getD-set-same, getD-set-other}
 use lib.Dec.{eqb}
 use borrow.Author.Tests.{eq-eqb, ne-eqb}
 use Rattle.common.specs.Pick.{pick, either}
@@ -28,6 +28,7 @@ frame-none docid i docids bodies starts matched =
       bodies-kept = kept-all i bodies;
       starts-kept = kept-all (min i (0 + 1)) starts;
       matched-kept = kept-all (min i (0 + 1)) matched;
+      forward = λ k. omega arith;
       others = λ k o. (refl, refl);
     }
 
@@ -43,17 +44,18 @@ module _ {docid i : ℕ} {docids₀ docids bodies₀ bodies starts₀ starts mat
         bodies-kept = kept-later (f .bodies-kept) j h;
         starts-kept = kept-later (f .starts-kept) (min j (hits + 1)) (omega arith);
         matched-kept = kept-later (f .matched-kept) (min j (hits + 1)) (omega arith);
+        forward = f .forward;
         others = f .others;
       }
 
   -- the cursor at `i` is on the docid, and is one more hit or hidden
-  module _ (docid′ body start mask : ℕ) (on : getD docids i 0 ≡ docid) where
+  module _ (docid′ body start mask : ℕ) (on : getD docids i 0 ≡ docid) (inside : i < length docids) (low : docid ≤ docid′) where
     on-before : getD docids₀ i 0 ≡ docid
     on-before = sym (kept-at (f .docids-kept) i (omega arith)) ∙ on
 
     frame-more : (more : ℕ) → hits ≤ more → more ≤ hits + 1
         → RowFrame docid (i + 1) docids₀ (set docids i docid′) bodies₀ (set bodies i body) starts₀ (set starts hits start) matched₀ (set matched hits mask) more (taken + 1) i
-    frame-more more low high =
+    frame-more more least most =
         let h = f .few-hits in
         let t = f .few-taken in
         record {
@@ -64,6 +66,12 @@ module _ {docid i : ℕ} {docids₀ docids bodies₀ bodies starts₀ starts mat
           bodies-kept = kept-set (kept-later (f .bodies-kept) (i + 1) (omega arith)) i body (omega arith);
           starts-kept = kept-set (kept-later (f .starts-kept) (min (i + 1) (more + 1)) (omega arith)) hits start (omega arith);
           matched-kept = kept-set (kept-later (f .matched-kept) (min (i + 1) (more + 1)) (omega arith)) hits mask (omega arith);
+          forward = λ k.
+              same-or k i
+              (λ q.
+              subst (λ (j : ℕ). getD docids₀ j 0 ≤ getD (set docids i docid′) j 0) (sym q)
+              (omega (arith, on-before, getD-set-same docids i docid′ 0 inside)))
+              (λ q. omega (arith, f .forward k, getD-set-other docids i k docid′ 0 q));
           others = λ k o.
               let other : k ≡ i → ⊥ = λ q. o (ap (λ (j : ℕ). getD docids₀ j 0) q ∙ on-before) in
               let z = f .others k o in

@@ -6,5 +6,6 @@ pub mod Docids
 pub mod Rows
 pub mod Moving
 pub mod Blocks
+pub mod Others
 pub mod Scanning
 pub mod Passing

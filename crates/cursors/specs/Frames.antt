@@ -7,7 +7,7 @@ use lib.ListN.{length, getD, take, set}
 use lib.Dec.{eqb}
 use Rattle.common.specs.Pick.{pick, either}
 use Rattle.row.specs.Frame.{KeptFrom}
-use Rattle.cursors.specs.Arrays.{finished, Room, leastOf, nextOf, blockSize, blocksOf, blockOf}
+use Rattle.cursors.specs.Arrays.{finished, Room, leastOf, nextOf, blockSize, blocksOf, blockOf, MinimaAre}
 use Rattle.cursors.specs.declared.Next.{Next}
 use Rattle.cursors.specs.declared.Next.the-variants.{End}
 use Rattle.cursors.specs.declared.Taken.{Taken}
@@ -30,7 +30,18 @@ pub record NotTaken (docids₀ docids bodies₀ bodies mins₀ mins starts₀ st
   pub starts-same : starts ≡ starts₀
   pub matched-same : matched ≡ matched₀
 
--- of the first `i` cursors those on the docid have moved, and no others; hits are written one behind the other, the place of a hidden
+-- the docids of the cursors that do not stand on a docid
+abbrev pub otherThan : ℕ → List ℕ → List ℕ
+otherThan docid [] = []
+otherThan docid (d ∷ ds) = pick (eqb d docid) (otherThan docid ds) (d ∷ otherThan docid ds)
+
+-- where the least docid of each block is right, it stays so, and the docids to go on with are known
+pub record RowNext (docid n : ℕ) (docids₀ docids mins : List ℕ) (r : Taken) : Type 0 where
+  pub minima : MinimaAre docids n mins
+  pub next-is : r .next ≡ nextOf (leastOf (take n docids))
+  pub rest-is : r .rest ≡ leastOf (otherThan docid (take n docids₀))
+
+-- of the first `i` cursors those on the docid have moved, and no others; none goes back; hits are written one behind the other, the place of a hidden
 -- one again
 pub record RowFrame (docid i : ℕ) (docids₀ docids bodies₀ bodies starts₀ starts matched₀ matched : List ℕ) (hits taken last : ℕ) : Type 0 where
   pub few-hits : hits ≤ taken
@@ -40,6 +51,7 @@ pub record RowFrame (docid i : ℕ) (docids₀ docids bodies₀ bodies starts₀
   pub bodies-kept : KeptFrom i bodies₀ bodies
   pub starts-kept : KeptFrom (min i (hits + 1)) starts₀ starts
   pub matched-kept : KeptFrom (min i (hits + 1)) matched₀ matched
+  pub forward : (k : ℕ) → getD docids₀ k 0 ≤ getD docids k 0
   pub others : (k : ℕ) → (getD docids₀ k 0 ≡ docid → ⊥) → (getD docids k 0 ≡ getD docids₀ k 0) × (getD bodies k 0 ≡ getD bodies₀ k 0)
 
 -- ---- passing over entries

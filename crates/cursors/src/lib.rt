@@ -13,12 +13,12 @@ ghost use Prim.Native.Nat.{ℕ, _+_, _*_, _^_, _≤_, _<_, min};
 ghost use lib.ListN.{length, getD, take};
 ghost use lib.Dec.{ltb};
 ghost use Rattle.common.specs.Pick.{pick, both};
-ghost use Rattle.common.specs.Bytes.{span};
+ghost use Rattle.common.specs.Bytes.{part, span};
 ghost use Rattle.doclist.specs.Doclist.{Entry, docidLimit};
 ghost use Rattle.cursors.specs.Groups.{Group, withoutBefore, From, NextIs};
 ghost use Rattle.row.specs.Frame.{KeptFrom};
 ghost use Rattle.cursors.specs.Arrays.{finished, isOpen, StandsOn, ListAt, CursorsAre, leastOf, nextOf, blockSize, blocksOf, MinimaAre, RowTaken, Passed, maxLeaves};
-ghost use Rattle.cursors.specs.Frames.{TakeRoom, NotTaken, RowFrame, MoveRoom, NotPassed, among, nextFrom, PassFrame};
+ghost use Rattle.cursors.specs.Frames.{TakeRoom, NotTaken, otherThan, RowNext, RowFrame, MoveRoom, NotPassed, among, nextFrom, PassFrame};
 ghost use Rattle.cursors.specs.Scanning.{begun, joined, overOther, overHit, takenOf, Fits, BlockTaken, Scanned};
 ghost use Rattle.cursors.specs.declared.Scan.{Scan};
 
@@ -85,7 +85,7 @@ fn open_bytes(s: &[u8]) -> usize
 // Where the cursor stands after the entry whose body is at `body`, in a list whose last byte is at `last`.
 fn entry_after(leaves: &[u8], docid: u64, body: u16, last: u16) -> Place
     ensures content { λ r. ⌜ ((e : Entry) (rest : List Entry) → length (now (leaves .entry)) ≤ maxLeaves → StandsOn (now (leaves .entry)) e rest docid body last → ListAt (now (leaves .entry)) rest (r .docid) (r .body) last) ⌝ }
-    ensures onward { λ r. ⌜ (docid < finished → docid + body < r .docid + r .body) ⌝ }
+    ensures onward { λ r. ⌜ (docid < finished → docid + body < r .docid + r .body) × (docid ≤ r .docid) ⌝ }
 {
     let from = body as usize;
     let to = last as usize;
@@ -268,7 +268,7 @@ fn take_block(
     before: Scan,
 ) -> Scan
     requires { ⌜ Fits from to (now docids) (now bodies) (now lasts) (now masks) (now follows) (now starts) (now matched) × (before .hits ≤ from) × (before .taken ≤ from) ⌝ }
-    ensures block { λ r. ⌜ BlockTaken (now (docids .entry)) (now (docids .exit)) from to r ⌝ }
+    ensures block { λ r. ⌜ BlockTaken (now (docids .entry)) (now (docids .exit)) from to r × (r .rest ≡ leastOf (otherThan docid (part (now (docids .entry)) from to))) ⌝ }
     ensures row { λ r. ⌜ ((n : ℕ) (groups : List Group) (earlier : Scan) → to ≤ n → Scanned (now (leaves .entry)) (now (docids .entry)) (now (bodies .entry)) (now (lasts .entry)) (now (masks .entry)) (now (follows .entry)) n (now (starts .entry)) (now (matched .entry)) docid groups (joined earlier (begun before)) from → Scanned (now (leaves .entry)) (now (docids .exit)) (now (bodies .exit)) (now (lasts .entry)) (now (masks .entry)) (now (follows .entry)) n (now (starts .exit)) (now (matched .exit)) docid groups (joined earlier r) to) ⌝ }
     ensures frame { λ r. ⌜ ((docids₀ bodies₀ starts₀ matched₀ : List ℕ) → RowFrame docid from docids₀ (now (docids .entry)) bodies₀ (now (bodies .entry)) starts₀ (now (starts .entry)) matched₀ (now (matched .entry)) (before .hits) (before .taken) (before .last) → RowFrame docid to docids₀ (now (docids .exit)) bodies₀ (now (bodies .exit)) starts₀ (now (starts .exit)) matched₀ (now (matched .exit)) (r .hits) (r .taken) (r .last)) ⌝ }
 {
@@ -405,7 +405,7 @@ pub fn advance(
     matched: &mut [u16],
 ) -> Taken
     ensures row { λ r. ⌜ ((groups : List Group) → CursorsAre (now (leaves .entry)) (now (docids .entry)) (now (bodies .entry)) (now (lasts .entry)) (now (masks .entry)) (now (follows .entry)) n groups → MinimaAre (now (docids .entry)) n (now (mins .entry)) → docid < docidLimit → From docid groups → n ≤ length (now (starts .entry)) → n ≤ length (now (matched .entry)) → RowTaken (now (leaves .entry)) (now (docids .exit)) (now (bodies .exit)) (now (lasts .entry)) (now (masks .entry)) (now (follows .entry)) n (now (mins .exit)) (now (starts .exit)) (now (matched .exit)) docid groups r) ⌝ }
-    ensures minima { λ r. ⌜ (TakeRoom n (now (docids .entry)) (now (bodies .entry)) (now (lasts .entry)) (now (masks .entry)) (now (follows .entry)) (now (mins .entry)) (now (starts .entry)) (now (matched .entry)) → MinimaAre (now (docids .entry)) n (now (mins .entry)) → MinimaAre (now (docids .exit)) n (now (mins .exit)) × (r .next ≡ nextOf (leastOf (take n (now (docids .exit)))))) ⌝ }
+    ensures next { λ r. ⌜ (TakeRoom n (now (docids .entry)) (now (bodies .entry)) (now (lasts .entry)) (now (masks .entry)) (now (follows .entry)) (now (mins .entry)) (now (starts .entry)) (now (matched .entry)) → MinimaAre (now (docids .entry)) n (now (mins .entry)) → RowNext docid n (now (docids .entry)) (now (docids .exit)) (now (mins .exit)) r) ⌝ }
     ensures otherwise { λ r. ⌜ ((TakeRoom n (now (docids .entry)) (now (bodies .entry)) (now (lasts .entry)) (now (masks .entry)) (now (follows .entry)) (now (mins .entry)) (now (starts .entry)) (now (matched .entry)) → ⊥) → NotTaken (now (docids .entry)) (now (docids .exit)) (now (bodies .entry)) (now (bodies .exit)) (now (mins .entry)) (now (mins .exit)) (now (starts .entry)) (now (starts .exit)) (now (matched .entry)) (now (matched .exit)) r) ⌝ }
     ensures frame { λ r. ⌜ RowFrame docid n (now (docids .entry)) (now (docids .exit)) (now (bodies .entry)) (now (bodies .exit)) (now (starts .entry)) (now (starts .exit)) (now (matched .entry)) (now (matched .exit)) (r .hits) (r .taken) (r .last) × KeptFrom (blocksOf n) (now (mins .entry)) (now (mins .exit)) ⌝ }
 {

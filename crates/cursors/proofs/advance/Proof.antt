@@ -12,7 +12,8 @@ use borrow.Author.Needs.{needs}
 use Rattle.row.specs.Frame.{KeptFrom}
 use Rattle.row.proofs.Frames.{kept-all, kept-set}
 use Rattle.cursors.specs.Groups.{Group}
-use Rattle.cursors.specs.Frames.{RowFrame}
+use Rattle.cursors.specs.Frames.{otherThan, RowNext, RowFrame}
+use Rattle.cursors.proofs.Others.{rest-passed, rest-joined}
 use Rattle.cursors.specs.Arrays.{leastOf, nextOf, blockSize, blocksOf, MinimaAre, RowTaken}
 use Rattle.cursors.specs.Scanning.{Fits, Scanned}
 use Rattle.cursors.specs.declared.Scan.{Scan}
@@ -35,7 +36,7 @@ Inv-loop docid leaves docids₀ bodies₀ lasts masks follows n mins₀ starts�
     × (from ≡ min n (blockSize * b))
     × (scan .hits ≤ from)
     × (scan .taken ≤ from)
-    × (MinimaAre docids₀ n mins₀ → MinimaAre docids n mins × (min (scan .rest) (scan .moved) ≡ leastOf (take from docids)))
+    × (MinimaAre docids₀ n mins₀ → MinimaAre docids n mins × (min (scan .rest) (scan .moved) ≡ leastOf (take from docids)) × (scan .rest ≡ leastOf (otherThan docid (take from docids₀))))
     × ((gs : List Group) → Ready leaves docids₀ bodies₀ lasts masks follows n mins₀ starts₀ matched₀ docid gs
     → Scanned leaves docids bodies lasts masks follows n starts matched docid gs scan from)
     × RowFrame docid from docids₀ docids bodies₀ bodies starts₀ starts matched₀ matched (scan .hits) (scan .taken) (scan .last)
@@ -113,7 +114,7 @@ loop-holds c =
       omega arith,
       omega arith,
       omega arith,
-      λ h. (h, refl),
+      λ h. (h, refl, refl),
       λ gs q. scanned-start _ _ q,
       frame-none _ _ _ _ _ _,
       kept-all _ _,
@@ -176,6 +177,7 @@ loop-again c =
             p .0,
             subst (λ (s : Scan). min (s .rest) (s .moved) ≡ leastOf (take to (l .docids))) (sym e)
                 (least-passed (l .docids) (l .mins) (a .n) (l .b) (l .from) to (l .scan .rest) (l .scan .moved) (p .0) (f .docid-room) q t ends (p .1)),
+            ap (λ (s : Scan). s .rest) e ∙ rest-passed (a .docid) (a .docids .now) (l .docids) (l .from) to (l .scan .rest) (l .inv .12 .docids-kept) (omega arith) (p .2) (a .n) (l .b) (l .mins) (p .0) (f .docid-room) q t ends (g .1),
           ),
       λ gs r.
           subst (λ (s : Scan). Scanned (a .leaves .now) (l .docids) (l .bodies) (a .lasts .now) (a .masks .now) (a .follows .now) (a .n) (l .starts) (l .matched) (a .docid) gs s to) (sym e)
@@ -241,7 +243,7 @@ loop-again-2 c =
     let bl = k .kept .1 .1 .1 .0 in
     let sl = k .kept .1 .1 .1 .1 .1 .1 .1 .1 .1 .0 in
     let ml = k .kept .1 .1 .1 .1 .1 .1 .1 .1 .1 .1 .0 in
-    let block = k .ensures .0 in
+    let block = k .ensures .0 .0 in
     let e = c .join .ensures in
     let m = c .before .lesser .result in
     let least : m ≡ leastOf (part docids (l .from) to) = omega (arith, c .before .lesser .ensures, block .least) in
@@ -272,6 +274,7 @@ loop-again-2 c =
                 (λ j o. block .others j (λ (u : l .from ≤ j) (v : j < to). o (omega arith) v)),
             subst (λ (s : Scan). min (s .rest) (s .moved) ≡ leastOf (take to docids)) (sym e)
                 (least-taken (l .docids) docids (l .from) to (l .scan) (k .result) (omega arith) (omega (arith, f .docid-room)) dl block (p .1)),
+            ap (λ (s : Scan). s .rest) e ∙ rest-joined (a .docid) (a .docids .now) (l .docids) (l .from) to (l .scan .rest) (l .inv .12 .docids-kept) (omega arith) (p .2) (k .result .rest) (k .ensures .0 .1),
           ),
       λ gs r.
           subst (λ (s : Scan). Scanned (a .leaves .now) docids bodies (a .lasts .now) (a .masks .now) (a .follows .now) (a .n) starts matched (a .docid) gs s to) (sym e)
@@ -322,7 +325,9 @@ returns-3 c =
           (next minima) (l .inv .10 minima .0)
           (subst (Scanned (a .leaves .now) (l .docids) (l .bodies) (a .lasts .now) (a .masks .now) (a .follows .now) (a .n) (l .starts) (l .matched) (a .docid) gs (l .scan)) q (l .inv .11 gs r))),
       (
-        λ h m. (l .inv .10 m .0, subst (λ (t : Taken). t .next ≡ nextOf (leastOf (take (a .n) (l .docids)))) (sym (c .end-scan2 .ensures)) (next m)),
+        λ h m. let p = l .inv .10 m in
+            subst (RowNext (a .docid) (a .n) (a .docids .now) (l .docids) (l .mins)) (sym (c .end-scan2 .ensures))
+            (record { minima = p .0; next-is = next m; rest-is = p .2 ∙ ap (λ (k : ℕ). leastOf (otherThan (a .docid) (take k (a .docids .now)))) q }),
         (
           λ o. absurd (o (record {
             cursor-room = record { docid-room = omega (arith, f .docid-room, l .inv .2); body-room = omega (arith, f .body-room, l .inv .3); last-room = f .last-room; mask-room = f .mask-room; follow-room = f .follow-room };

@@ -8,10 +8,10 @@ use Rattle.cursors.proofs.entry_after.Statement.{statement}
 use Rattle.cursors.proofs.entry_after.Tie as tie
 
 returns : tie.Need-returns
-returns c = (λ e rest small on. absurd (omega (arith, last-inside on)), λ h. omega arith)
+returns c = (λ e rest small on. absurd (omega (arith, last-inside on)), (λ h. omega arith, omega arith))
 
 returns-2 : tie.Need-returns-2
-returns-2 c = (λ e rest small on. absurd (omega (arith, last-inside on)), λ h. omega arith)
+returns-2 c = (λ e rest small on. absurd (omega (arith, last-inside on)), (λ h. omega arith, omega arith))
 
 part-open-bytes-start : tie.Need-part-open-bytes-start
 part-open-bytes-start c = search needs
@@ -26,7 +26,7 @@ add-close : tie.Need-add-close
 add-close c = omega (arith, c .open-bytes .ensures, span-inside (c .before .before .before .before .before .args .leaves .now) (c .before .before .before .before .before .args .body) (c .before .before .before .before .before .args .last))
 
 returns-3 : tie.Need-returns-3
-returns-3 c = (λ e rest small on. stands-last (c .before .open-bytes .result) on (c .before .open-bytes .ensures) (c .if3 .taken), λ h. omega arith)
+returns-3 c = (λ e rest small on. stands-last (c .before .open-bytes .result) on (c .before .open-bytes .ensures) (c .if3 .taken), (λ h. omega arith, omega arith))
 
 add-read : tie.Need-add-read
 add-read c = omega (arith, c .before .open-bytes .ensures, span-inside (c .before .before .before .before .before .before .args .leaves .now) (c .before .before .before .before .before .before .args .body) (c .before .before .before .before .before .before .args .last))
@@ -41,17 +41,17 @@ enum-told : tie.Need-enum-told
 enum-told c = search needs
 
 returns-4 : tie.Need-returns-4
-returns-4 c = (λ e rest small on. next-not-refused (c .before .before .before .before .open-bytes .result) on (c .before .before .before .before .open-bytes .ensures) (c .before .before .before .if3 .left) (sym (c .before .before .read .ensures .0) ∙ c .enum-told .given .1), λ h. omega arith)
+returns-4 c = (λ e rest small on. next-not-refused (c .before .before .before .before .open-bytes .result) on (c .before .before .before .before .open-bytes .ensures) (c .before .before .before .if3 .left) (sym (c .before .before .read .ensures .0) ∙ c .enum-told .given .1), (λ h. omega arith, omega arith))
 
 returns-5 : tie.Need-returns-5
-returns-5 c = (λ e rest small on. absurd (omega (arith, on .same, on .limit)), λ h. omega arith)
+returns-5 c = (λ e rest small on. absurd (omega (arith, on .same, on .limit)), (λ h. omega arith, omega arith))
 
 returns-6 : tie.Need-returns-6
 returns-6 c = (
   λ e rest small on.
       let k = next-here (c .before .before .before .before .before .before .before .open-bytes .result) on (c .before .before .before .before .before .before .before .open-bytes .ensures) (c .before .before .before .before .before .before .if3 .left) (sym (c .before .before .before .before .before .read .ensures .0) ∙ c .before .before .before .value .given .1) in
       absurd (omega (arith, k .inside)),
-  λ h. omega arith,
+  (λ h. omega arith, omega arith),
 )
 
 add-t18 : tie.Need-add-t18
@@ -64,7 +64,7 @@ returns-7 : tie.Need-returns-7
 returns-7 c = (
   λ e rest small on.
       next-here (c .before .before .before .before .before .before .before .open-bytes .result) on (c .before .before .before .before .before .before .before .open-bytes .ensures) (c .before .before .before .before .before .before .if3 .left) (sym (c .before .before .before .before .before .read .ensures .0) ∙ c .before .before .before .value .given .1) .stands,
-  λ h. let s = c .before .before .before .before .before .read .ensures .1 _ _ .0 (c .before .before .before .value .given .1) in omega (arith, s .ends),
+  (λ h. let s = c .before .before .before .before .before .read .ensures .1 _ _ .0 (c .before .before .before .value .given .1) in omega (arith, s .ends), omega arith),
 )
 
 pub entry-after-spec : {M : Type 1} → statement M

@@ -29,7 +29,7 @@ entry-after-requires c κs = search needs
 loop-less : tie.Need-loop-less Inv-loop μ-loop
 loop-less c =
     let t = c .before .if1 .taken in
-    let z = c .entry-after .ensures .1 (omega (arith, c .before .before .before .before .before .fits .rest)) in omega (arith, c .before .before .before .before .before .fits .rest, c .before .before .struct-known .given)
+    let z = c .entry-after .ensures .1 .0 (omega (arith, c .before .before .before .before .before .fits .rest)) in omega (arith, c .before .before .before .before .before .fits .rest, c .before .before .struct-known .given)
 
 loop-again : tie.Need-loop-again Inv-loop μ-loop
 loop-again c = (

@@ -6,11 +6,14 @@ use Rattle.cursors.proofs.Scanning.{scanned-other, scanned-hit}
 use mathlib.Core.Path.{_≡_, refl, sym, ap, _∙_, subst}
 use mathlib.Core.List.{List}
 use mathlib.Core.Bool.{Bool}
-use Prim.Native.Nat.{ℕ, _+_, _-_, _≤_, min}
+use Prim.Native.Nat.{ℕ, _+_, _-_, _≤_, _<_, min}
 use native.Mathlib.Omega.{arith}
 use borrow.Author.Needs.{needs}
 use Rattle.cursors.specs.Groups.{Group}
-use Rattle.cursors.specs.Frames.{RowFrame}
+use Rattle.common.specs.Bytes.{part}
+use Rattle.cursors.specs.Arrays.{leastOf}
+use Rattle.cursors.specs.Frames.{RowFrame, otherThan}
+use Rattle.cursors.proofs.Others.{rest-begun, rest-other, rest-hit}
 use Rattle.cursors.proofs.Framing.{frame-others, frame-hit}
 use Rattle.cursors.specs.declared.Scan.{Scan}
 use Rattle.cursors.proofs.take_block.Statement.{statement}
@@ -29,6 +32,7 @@ Inv-loop docid leaves docids₀ bodies₀ lasts masks follows from to starts₀ 
     → Scanned leaves docids bodies lasts masks follows n starts matched docid gs (joined earlier scan) i)
     × ((d b s m : List ℕ) → RowFrame docid from d docids₀ b bodies₀ s starts₀ m matched₀ (scan₀ .hits) (scan₀ .taken) (scan₀ .last)
     → RowFrame docid i d docids b bodies s starts m matched (scan .hits) (scan .taken) (scan .last))
+    × (scan .rest ≡ leastOf (otherThan docid (part docids₀ from i)))
 
 abbrev μ-loop : tie.MeasureT-loop
 μ-loop docid leaves docids₀ bodies₀ lasts masks follows from to starts₀ matched₀ scan₀ i₀ docids bodies starts matched scan i =
@@ -41,7 +45,7 @@ loop-holds : tie.Need-loop-holds Inv-loop μ-loop
 loop-holds c =
     let a = c .before .before .before .before .before .before .before .before .before .args in
     let pre = c .before .before .before .before .before .before .before .before .before .pre in
-    (omega arith, pre .0, refl, refl, refl, refl, block-begun (a .docids .now) (a .from) (a .before) _ (c .begin-block .ensures) (pre .1) (pre .2), λ n gs earlier h p. p, λ d b s m f. f)
+    (omega arith, pre .0, refl, refl, refl, refl, block-begun (a .docids .now) (a .from) (a .before) _ (c .begin-block .ensures) (pre .1) (pre .2), λ n gs earlier h p. p, λ d b s m f. f, ap (λ (x : Scan). x .rest) (c .begin-block .ensures) ∙ rest-begun (a .docid) (a .docids .now) (a .from))
 
 mul-at : tie.Need-mul-at Inv-loop μ-loop
 mul-at c = search needs
@@ -96,6 +100,9 @@ loop-again c =
       λ d b s m g.
           subst (λ (x : Scan). RowFrame (a .docid) (l .i + 1) d (l .docids) b (l .bodies) s (l .starts) m (l .matched) (x .hits) (x .taken) (x .last)) (sym e)
           (frame-others (l .inv .8 d b s m g) (l .i + 1) (omega arith)),
+      ap (λ (x : Scan). x .rest) e
+          ∙ rest-other (a .docid) (a .docids .now) (a .from) (l .i) (l .scan .rest) (l .inv .0) (omega (arith, f .docid-room, l .inv .2)) (l .inv .9) at
+          (l .inv .6 .others (l .i) (λ (u : a .from ≤ l .i) (v : l .i < l .i). omega arith)) (c .before .if1 .taken),
     )
 
 mul-starts : tie.Need-mul-starts Inv-loop μ-loop
@@ -193,7 +200,10 @@ loop-again-2 c =
           (c .before .before .before .before .before .before .if1 .left) (c .before .entry-after .ensures .0)),
       λ d b s m g.
           subst (λ (x : Scan). RowFrame (a .docid) (l .i + 1) d (set (l .docids) (l .i) (place .docid)) b (set (l .bodies) (l .i) (place .body)) s (set (l .starts) (l .scan .hits) start) m (set (l .matched) (l .scan .hits) mask) (x .hits) (x .taken) (x .last)) (sym e)
-          (frame-hit (l .inv .8 d b s m g) (place .docid) (place .body) start mask (c .before .before .before .before .before .before .if1 .left) (c .before .before .before .before .before .before .before .is-hidden .result)),
+          (frame-hit (l .inv .8 d b s m g) (place .docid) (place .body) start mask (c .before .before .before .before .before .before .if1 .left) (omega (arith, f .docid-room)) (c .before .entry-after .ensures .1 .1) (c .before .before .before .before .before .before .before .is-hidden .result)),
+      ap (λ (x : Scan). x .rest) e
+          ∙ rest-hit (a .docid) (a .docids .now) (a .from) (l .i) (l .scan .rest) (l .inv .0) (omega (arith, f .docid-room, l .inv .2)) (l .inv .9)
+          (sym (l .inv .6 .others (l .i) (λ (u : a .from ≤ l .i) (v : l .i < l .i). omega arith)) ∙ c .before .before .before .before .before .before .if1 .left),
     )
 
 same-length : tie.Need-same-length Inv-loop μ-loop
@@ -213,7 +223,10 @@ returns c =
     let l = c .before .loop in
     let a = c .before .before .before .before .before .before .before .before .before .before .before .args in
     let q : l .i ≡ a .to = omega (arith, l .inv .1 .block, c .loop-test .left) in (
-      subst (λ (k : ℕ). BlockTaken (a .docids .now) (l .docids) (a .from) k (l .scan)) q (l .inv .6),
+      (
+        subst (λ (k : ℕ). BlockTaken (a .docids .now) (l .docids) (a .from) k (l .scan)) q (l .inv .6),
+        l .inv .9 ∙ ap (λ (k : ℕ). leastOf (otherThan (a .docid) (part (a .docids .now) (a .from) k))) q,
+      ),
       (
         λ n gs earlier h p.
             subst (Scanned (a .leaves .now) (l .docids) (l .bodies) (a .lasts .now) (a .masks .now) (a .follows .now) n (l .starts) (l .matched) (a .docid) gs (joined earlier (l .scan))) q
