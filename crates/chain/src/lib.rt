@@ -18,7 +18,7 @@ ghost use Rattle.chain.specs.Reaching.{marked, oldOf, wordWith, putAt, d
 ghost use Rattle.chain.specs.Going.{Continues};
 
 // A row has at most as many positions as the leaves have bytes.
-pub const MAX_CANDIDATES: usize = 65536;
+const MAX_CANDIDATES: usize = 65536;
 
 // The number of words that hold a bit for each candidate.
 const BIT_WORDS: usize = 1024;

@@ -8,11 +8,11 @@ use lib.Seq.{getD-set-same, getD-set-other}
 use Rattle.common.proofs.Cases.{split, same-or}
 use Rattle.offsets.specs.Cut.{cut}
 use Rattle.offsets.proofs.Cuts.{startOf, length-cut}
-use Rattle.leaf.specs.Leaf.{Term, WellFormed, encodeLeaf, maxWord}
+use Rattle.leaf.specs.Leaf.{Term, WellFormed, encodeLeaf}
 use Rattle.leaf.proofs.Rest.{RestIs, leaf-rest}
 use Rattle.lexer.specs.Token.{Node}
 use Rattle.merge.specs.Opening.{AreLeaves}
-use Rattle.merge.specs.Fronts.{wordOf, skipTo, FrontIs, frontAt, noFront, FrontsAre, allSkipped}
+use Rattle.merge.specs.Fronts.{wordOf, skipTo, FrontIs, frontAt, noFront, Placed, FrontsAre, allSkipped}
 use Rattle.merge.specs.declared.Front.{Front}
 
 -- ---- leaf by leaf
@@ -87,19 +87,20 @@ starting-end {nodes} {columns} {bytes} {ends} {terms} j h s =
       each = λ k z. s .passed k (omega arith);
     }
 
-pub sized-set : (fronts : List Front) (j m : ℕ) (other : Front) → j < length fronts → other .size ≤ maxWord
-    → ((k : ℕ) → k < m → frontAt fronts k .size ≤ maxWord) → (k : ℕ) → k < m → frontAt (set fronts j other) k .size ≤ maxWord
-sized-set fronts j m other hj s h k z =
-    same-or k j
-    (λ q.
-    subst (λ (i : ℕ). frontAt (set fronts j other) i .size ≤ maxWord) (sym q)
-    (subst (λ (f : Front). f .size ≤ maxWord) (sym (getD-set-same fronts j other noFront hj)) s))
-    (λ q. subst (λ (f : Front). f .size ≤ maxWord) (sym (getD-set-other fronts j k other noFront q)) (h k z))
+module _ {size : ℕ} where
+  pub placed-set : (fronts : List Front) (j m : ℕ) (other : Front) → j < length fronts → Placed size other
+      → ((k : ℕ) → k < m → Placed size (frontAt fronts k)) → (k : ℕ) → k < m → Placed size (frontAt (set fronts j other) k)
+  placed-set fronts j m other hj s h k z =
+      same-or k j
+      (λ q.
+      subst (λ (i : ℕ). Placed size (frontAt (set fronts j other) i)) (sym q)
+      (subst (Placed size) (sym (getD-set-same fronts j other noFront hj)) s))
+      (λ q. subst (Placed size) (sym (getD-set-other fronts j k other noFront q)) (h k z))
 
-pub sized-none : (none : Front) → none .size ≡ 0 → (k : ℕ) → frontAt (replicate 8 none) k .size ≤ maxWord
-sized-none none z k = go 8 k
-  where
-    go : (n k : ℕ) → frontAt (replicate n none) k .size ≤ maxWord
-    go zero k = omega arith
-    go (suc n) zero = omega arith
-    go (suc n) (suc k) = go n k
+  pub placed-all : (none : Front) → Placed size none → (k : ℕ) → Placed size (frontAt (replicate 8 none) k)
+  placed-all none p k = go 8 k
+    where
+      go : (n k : ℕ) → Placed size (frontAt (replicate n none) k)
+      go zero k = record { sized = omega arith; inside = λ some. absurd (some refl) }
+      go (suc n) zero = p
+      go (suc n) (suc k) = go n k

@@ -18,13 +18,13 @@ use Rattle.common.proofs.Lists.{same-true, same-refl}
 use Rattle.offsets.specs.Cut.{Cuts, cut}
 use Rattle.offsets.proofs.Cuts.{startOf, part-here, part-start, part-end, part-length}
 use Rattle.doclist.specs.Doclist.{Entry}
-use Rattle.leaf.specs.Leaf.{Term, maxWord}
+use Rattle.leaf.specs.Leaf.{Term}
 use Rattle.leaf.proofs.Rest.{RestIs}
 use Rattle.lexer.specs.Token.{Node}
 use Rattle.cursors.specs.Arrays.{ListAt, Cursor, groupCursors, noCursor, CursorAt, Hold}
 use Rattle.cursors.proofs.Bodies.{last-inside}
 use Rattle.merge.specs.Matching.{maskOf}
-use Rattle.merge.specs.Fronts.{wordOf, skipTo, Shows, FrontIs, hasWord, frontAt, noFront, popped, allPopped, headFor, headLists, FrontsAre, Able, WordTaken}
+use Rattle.merge.specs.Fronts.{wordOf, skipTo, Shows, FrontIs, hasWord, frontAt, noFront, Placed, popped, allPopped, headFor, headLists, FrontsAre, Able, WordTaken}
 use Rattle.merge.specs.declared.Front.{Front}
 use Rattle.merge.proofs.Masks.{matches-law}
 
@@ -347,17 +347,17 @@ leaf-inside bytes ends j base leaf cuts h e q =
     omega (arith, ap length e, part-length bytes ends cuts j h, part-start bytes ends cuts j h, part-end bytes ends cuts j h)
 
 pub able-more : {bytes ends : List ℕ} {fronts : List Front} {docids bodies lasts masks follows : List ℕ} {n : ℕ} (j : ℕ) (other : Front)
-    → Able bytes ends fronts docids bodies lasts masks follows n → n < length docids → j < length fronts → other .size ≤ maxWord
+    → Able bytes ends fronts docids bodies lasts masks follows n → n < length docids → j < length fronts → Placed (length bytes) other
     → Able bytes ends (set fronts j other) docids bodies lasts masks follows (n + 1)
-able-more {fronts = fronts} j other a h hj s =
+able-more {bytes} {fronts = fronts} j other a h hj s =
     record {
       cuts = a .cuts;
       few = a .few;
       small = a .small;
-      sized = λ k z.
+      placed = λ k z.
           same-or k j
-          (λ q. subst (λ (i : ℕ). frontAt (set fronts j other) i .size ≤ maxWord) (sym q) (subst (λ (f : Front). f .size ≤ maxWord) (sym (getD-set-same fronts j other noFront hj)) s))
-          (λ q. subst (λ (f : Front). f .size ≤ maxWord) (sym (getD-set-other fronts j k other noFront q)) (a .sized k z));
+          (λ q. subst (λ (i : ℕ). Placed (length bytes) (frontAt (set fronts j other) i)) (sym q) (subst (Placed (length bytes)) (sym (getD-set-same fronts j other noFront hj)) s))
+          (λ q. subst (Placed (length bytes)) (sym (getD-set-other fronts j k other noFront q)) (a .placed k z));
       body-room = a .body-room;
       last-room = a .last-room;
       mask-room = a .mask-room;
@@ -401,7 +401,7 @@ able-as docids′ bodies′ lasts′ masks′ follows′ a l =
       cuts = a .cuts;
       few = a .few;
       small = a .small;
-      sized = a .sized;
+      placed = a .placed;
       body-room = omega (arith, a .body-room, l .docid-length, l .body-length);
       last-room = omega (arith, a .last-room, l .docid-length, l .last-length);
       mask-room = omega (arith, a .mask-room, l .docid-length, l .mask-length);

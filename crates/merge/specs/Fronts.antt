@@ -83,6 +83,11 @@ noFront = record { word = []; size = 0; mask = 0; docid = 0; body = 0; last = 0;
 abbrev pub frontAt : List Front → ℕ → Front
 frontAt fronts j = getD fronts j noFront
 
+-- whatever the leaf holds, a front's word fits, and the list of a front that has one lies in the first `size` bytes of the leaves
+pub record Placed (size : ℕ) (f : Front) : Type 0 where
+  pub sized : f .size ≤ maxWord
+  pub inside : (f .mask ≡ 0 → ⊥) → (f .body ≤ f .last) × (f .last < size)
+
 -- of the first `m` fronts, number `r` has a word, and none has a word before it; `r` is `m` where none has a word
 pub record LeastIs (fronts : List Front) (m r : ℕ) : Type 0 where
   pub within : r ≤ m
@@ -115,12 +120,12 @@ pub record FrontsAre (nodes : List Node) (columns : ℕ) (bytes ends : List ℕ)
   pub count : length left ≡ length ends
   pub each : (j : ℕ) → j < length ends → FrontIs nodes columns (getD (cut bytes ends) j []) (startOf ends j) (frontAt fronts j) (getD left j [])
 
--- what the merge needs to be safe: leaves that are cut, words that fit, and arrays as long as the first
+-- what the merge needs to be safe: leaves that are cut, fronts that lie in them, and arrays as long as the first
 pub record Able (bytes ends : List ℕ) (fronts : List Front) (docids bodies lasts masks follows : List ℕ) (n : ℕ) : Type 0 where
   pub cuts : Cuts bytes ends
   pub few : length ends ≤ mostLeaves
   pub small : length bytes ≤ maxLeaves
-  pub sized : (j : ℕ) → j < length ends → frontAt fronts j .size ≤ maxWord
+  pub placed : (j : ℕ) → j < length ends → Placed (length bytes) (frontAt fronts j)
   pub body-room : length docids ≤ length bodies
   pub last-room : length docids ≤ length lasts
   pub mask-room : length docids ≤ length masks

@@ -99,12 +99,19 @@ pub record NotOpened (docids₀ docids bodies₀ bodies lasts₀ lasts masks₀ 
   pub masks-same : masks ≡ masks₀
   pub follows-same : follows ≡ follows₀
 
--- the first n places are written, and no others; each has a word of the query, and is the first of its group or follows others
-pub record OpenFrame (docids₀ docids bodies₀ bodies lasts₀ lasts masks₀ masks follows₀ follows : List ℕ) (n : ℕ) : Type 0 where
+-- a cursor has a word of the query, its list lies in the leaves, and it is the first of its group or follows others
+pub record CursorFits (bytes bodies lasts masks follows : List ℕ) (k : ℕ) : Type 0 where
+  pub word : getD masks k 0 ≡ 0 → ⊥
+  pub list : getD bodies k 0 ≤ getD lasts k 0
+  pub inside : getD lasts k 0 < length bytes
+  pub mark : getD follows k 0 ≤ 1
+
+-- the first n places are written, and no others
+pub record OpenFrame (bytes docids₀ docids bodies₀ bodies lasts₀ lasts masks₀ masks follows₀ follows : List ℕ) (n : ℕ) : Type 0 where
   pub few : n ≤ length docids₀
   pub docids-kept : KeptFrom n docids₀ docids
   pub bodies-kept : KeptFrom n bodies₀ bodies
   pub lasts-kept : KeptFrom n lasts₀ lasts
   pub masks-kept : KeptFrom n masks₀ masks
   pub follows-kept : KeptFrom n follows₀ follows
-  pub each : (k : ℕ) → k < n → (getD masks k 0 ≡ 0 → ⊥) × (getD follows k 0 ≤ 1)
+  pub each : (k : ℕ) → k < n → CursorFits bytes bodies lasts masks follows k

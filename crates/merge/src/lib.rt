@@ -20,7 +20,7 @@ ghost use Rattle.leaf.proofs.Rest.{RestIs};
 ghost use Rattle.lexer.specs.Token.{Node};
 ghost use Rattle.cursors.specs.Arrays.{Cursor, Hold, maxLeaves};
 ghost use Rattle.merge.specs.Matching.{beginsWith, matchesOf, maskOf, NodeAt, WordsAre};
-ghost use Rattle.merge.specs.Fronts.{wordOf, skipTo, FrontHas, FrontIs, beforeOf, isEarlier, hasWord, frontAt, LeastIs, headLists, FrontsAre, Able, WordTaken, allSkipped};
+ghost use Rattle.merge.specs.Fronts.{wordOf, skipTo, FrontHas, FrontIs, beforeOf, isEarlier, hasWord, frontAt, Placed, LeastIs, headLists, FrontsAre, Able, WordTaken, allSkipped};
 ghost use Rattle.merge.specs.Opening.{mostLeaves, AreLeaves, LeavesAre, wordSize, Opened, Mergeable, NotOpened, OpenFrame};
 
 // A query has at most 16 words.
@@ -196,7 +196,7 @@ fn front_at(
     next: usize,
 ) -> Front
     requires { ⌜ (base + length (now leaf) ≤ 65536) × (next ≤ length (now leaf)) × (size ≤ 64) ⌝ }
-    ensures { λ r. ⌜ (r .size ≤ 64) × ((entries : List Entry) (tail : List ℕ) (columns : ℕ) → WellFormed columns entries → drop list (now (leaf .entry)) ≡ encodeList entries ++ tail → next ≡ list + length (encodeList entries) → FrontHas (now (leaf .entry)) base word size mask next entries r) ⌝ }
+    ensures { λ r. ⌜ Placed (base + length (now (leaf .entry))) r × ((entries : List Entry) (tail : List ℕ) (columns : ℕ) → WellFormed columns entries → drop list (now (leaf .entry)) ≡ encodeList entries ++ tail → next ≡ list + length (encodeList entries) → FrontHas (now (leaf .entry)) base word size mask next entries r) ⌝ }
 {
     // A first docid is seldom below 128.
     let Varint::Value { value, next: body } = varint::read_long(leaf, list) else {
@@ -227,7 +227,7 @@ fn seek(
     front: Front,
 ) -> Front
     requires { ⌜ base + length (now leaf) ≤ 65536 ⌝ }
-    ensures { λ r. ⌜ (r .size ≤ 64) × ((nodes : List Node) (columns : ℕ) (ts : List Term) → WordsAre (now (text .entry)) (now (ends .entry)) (now (marks .entry)) count nodes → RestIs columns (now (leaf .entry)) (front .next) (wordOf front) ts [] → FrontIs nodes columns (now (leaf .entry)) base r (skipTo nodes ts)) ⌝ }
+    ensures { λ r. ⌜ Placed (base + length (now (leaf .entry))) r × ((nodes : List Node) (columns : ℕ) (ts : List Term) → WordsAre (now (text .entry)) (now (ends .entry)) (now (marks .entry)) count nodes → RestIs columns (now (leaf .entry)) (front .next) (wordOf front) ts [] → FrontIs nodes columns (now (leaf .entry)) base r (skipTo nodes ts)) ⌝ }
 {
     let mut word = front.word;
     let mut at = front.next;
@@ -370,7 +370,7 @@ fn fronts_of(
     ends: &[u32],
 ) -> [Front; 8]
     requires { ⌜ Cuts (now leaves) (now ends) × (length (now ends) ≤ 8) × (length (now leaves) ≤ 65536) ⌝ }
-    ensures { λ r. ⌜ ((j : ℕ) → j < length (now (ends .entry)) → frontAt r j .size ≤ 64) × ((nodes : List Node) (columns : ℕ) (terms : List (List Term)) → WordsAre (now (text .entry)) (now (stops .entry)) (now (marks .entry)) count nodes → AreLeaves columns (cut (now (leaves .entry)) (now (ends .entry))) terms → FrontsAre nodes columns (now (leaves .entry)) (now (ends .entry)) r (allSkipped nodes terms)) ⌝ }
+    ensures { λ r. ⌜ ((j : ℕ) → j < length (now (ends .entry)) → Placed (length (now (leaves .entry))) (frontAt r j)) × ((nodes : List Node) (columns : ℕ) (terms : List (List Term)) → WordsAre (now (text .entry)) (now (stops .entry)) (now (marks .entry)) count nodes → AreLeaves columns (cut (now (leaves .entry)) (now (ends .entry))) terms → FrontsAre nodes columns (now (leaves .entry)) (now (ends .entry)) r (allSkipped nodes terms)) ⌝ }
 {
     let none = no_front();
     let mut fronts = [none; 8];
@@ -404,7 +404,7 @@ fn take_word(
     requires { ⌜ Able (now leaves) (now ends) given (now docids) (now bodies) (now lasts) (now masks) (now follows) from × (front .size ≤ 64) ⌝ }
     ensures able { λ r. ⌜ Able (now (leaves .entry)) (now (ends .entry)) (r .fronts) (now (docids .entry)) (now (bodies .entry)) (now (lasts .entry)) (now (masks .entry)) (now (follows .entry)) (r .n) × (from ≤ r .n) ⌝ }
     ensures content { λ r. ⌜ ((nodes : List Node) (columns : ℕ) (left : List (List Term)) (cs : List Cursor) → WordsAre (now (text .entry)) (now (stops .entry)) (now (marks .entry)) count nodes → FrontsAre nodes columns (now (leaves .entry)) (now (ends .entry)) given left → Hold (now (leaves .entry)) (now (docids .entry)) (now (bodies .entry)) (now (lasts .entry)) (now (masks .entry)) (now (follows .entry)) from cs → from + length (headLists (wordOf front) left) ≤ length (now (docids .entry)) → WordTaken nodes columns (wordOf front) (now (leaves .entry)) (now (ends .entry)) (now (docids .exit)) (now (bodies .exit)) (now (lasts .exit)) (now (masks .exit)) (now (follows .exit)) left cs r) ⌝ }
-    ensures frame { λ r. ⌜ ((docids₀ bodies₀ lasts₀ masks₀ follows₀ : List ℕ) → length docids₀ ≡ length (now (docids .entry)) → OpenFrame docids₀ (now (docids .entry)) bodies₀ (now (bodies .entry)) lasts₀ (now (lasts .entry)) masks₀ (now (masks .entry)) follows₀ (now (follows .entry)) from → OpenFrame docids₀ (now (docids .exit)) bodies₀ (now (bodies .exit)) lasts₀ (now (lasts .exit)) masks₀ (now (masks .exit)) follows₀ (now (follows .exit)) (r .n)) ⌝ }
+    ensures frame { λ r. ⌜ ((docids₀ bodies₀ lasts₀ masks₀ follows₀ : List ℕ) → length docids₀ ≡ length (now (docids .entry)) → OpenFrame (now (leaves .entry)) docids₀ (now (docids .entry)) bodies₀ (now (bodies .entry)) lasts₀ (now (lasts .entry)) masks₀ (now (masks .entry)) follows₀ (now (follows .entry)) from → OpenFrame (now (leaves .entry)) docids₀ (now (docids .exit)) bodies₀ (now (bodies .exit)) lasts₀ (now (lasts .exit)) masks₀ (now (masks .exit)) follows₀ (now (follows .exit)) (r .n)) ⌝ }
 {
     let mut fronts = given;
     let mut n = from;
@@ -473,7 +473,7 @@ pub fn open(
 ) -> usize
     ensures content { λ n. ⌜ ((nodes : List Node) (columns : ℕ) (terms : List (List Term)) → WordsAre (now (text .entry)) (now (stops .entry)) (now (marks .entry)) count nodes → LeavesAre columns (now (leaves .entry)) (now (ends .entry)) terms → length (now (leaves .entry)) < wordSize * (length (now (docids .entry)) + 1) → length (now (docids .entry)) ≤ length (now (bodies .entry)) → length (now (docids .entry)) ≤ length (now (lasts .entry)) → length (now (docids .entry)) ≤ length (now (masks .entry)) → length (now (docids .entry)) ≤ length (now (follows .entry)) → Opened nodes terms (now (leaves .entry)) (now (docids .exit)) (now (bodies .exit)) (now (lasts .exit)) (now (masks .exit)) (now (follows .exit)) n) ⌝ }
     ensures otherwise { λ n. ⌜ ((Mergeable (now (leaves .entry)) (now (ends .entry)) (now (docids .entry)) (now (bodies .entry)) (now (lasts .entry)) (now (masks .entry)) (now (follows .entry)) → ⊥) → NotOpened (now (docids .entry)) (now (docids .exit)) (now (bodies .entry)) (now (bodies .exit)) (now (lasts .entry)) (now (lasts .exit)) (now (masks .entry)) (now (masks .exit)) (now (follows .entry)) (now (follows .exit)) n) ⌝ }
-    ensures frame { λ n. ⌜ OpenFrame (now (docids .entry)) (now (docids .exit)) (now (bodies .entry)) (now (bodies .exit)) (now (lasts .entry)) (now (lasts .exit)) (now (masks .entry)) (now (masks .exit)) (now (follows .entry)) (now (follows .exit)) n ⌝ }
+    ensures frame { λ n. ⌜ OpenFrame (now (leaves .entry)) (now (docids .entry)) (now (docids .exit)) (now (bodies .entry)) (now (bodies .exit)) (now (lasts .entry)) (now (lasts .exit)) (now (masks .entry)) (now (masks .exit)) (now (follows .entry)) (now (follows .exit)) n ⌝ }
 {
     if !is_able(
         leaves,

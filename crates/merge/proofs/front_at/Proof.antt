@@ -1,4 +1,5 @@
 -- `merge::front_at` meets its contract: where a posting list stands at `list`, its first entry is read.
+use Rattle.merge.proofs.Framing.{placed-none}
 use Rattle.merge.proofs.Firsts.{list-not-refused, front-has}
 use mathlib.Core.Path.{sym, _∙_}
 use native.Mathlib.Omega.{arith}
@@ -21,7 +22,7 @@ no-front-requires c κs = search needs
 returns : tie.Need-returns
 returns c =
     let a = c .before .before .before .before .before .args in (
-      omega (arith, c .no-front .ensures),
+      placed-none (c .no-front .ensures .0) (c .no-front .ensures .1),
       λ entries tail columns w e q.
           list-not-refused (a .leaf .now) (a .base) (a .word) (a .size) (a .mask) (a .list) (a .next) entries tail columns w e q (sym (c .before .before .before .read-long .ensures .0) ∙ c .before .enum-told .given .1),
     )
@@ -32,7 +33,7 @@ no-front-requires-2 c κs = search needs
 returns-2 : tie.Need-returns-2
 returns-2 c =
     let a = c .before .before .before .before .before .before .before .args in (
-      omega (arith, c .no-front2 .ensures),
+      placed-none (c .no-front2 .ensures .0) (c .no-front2 .ensures .1),
       λ entries tail columns w e q.
           let k = front-has (a .leaf .now) (a .base) (a .word) (a .size) (a .mask) (a .list) (a .next) entries tail columns w e q (sym (c .before .before .before .before .before .read-long .ensures .0) ∙ c .before .before .before .value .given .1) in
           absurd (omega (arith, k .0, c .before .if1 .taken)),
@@ -56,7 +57,10 @@ cast-t16 c = search needs
 returns-3 : tie.Need-returns-3
 returns-3 c =
     let a = c .before .before .before .before .before .before .args in (
-      omega (arith, c .before .before .before .before .before .before .pre),
+      record {
+        sized = omega (arith, c .before .before .before .before .before .before .pre);
+        inside = λ _. (omega (arith, c .if1 .left), omega (arith, c .if1 .left, c .before .before .before .before .before .before .pre));
+      },
       λ entries tail columns w e q.
           front-has (a .leaf .now) (a .base) (a .word) (a .size) (a .mask) (a .list) (a .next) entries tail columns w e q (sym (c .before .before .before .before .read-long .ensures .0) ∙ c .before .before .value .given .1) .1,
     )

@@ -5,9 +5,10 @@ use lib.ListN.{length-set}
 use Rattle.offsets.specs.Cut.{Cuts, cut}
 use Rattle.merge.specs.Matching.{WordsAre}
 use Rattle.merge.specs.Opening.{AreLeaves}
-use Rattle.merge.specs.Fronts.{frontAt}
+use Rattle.merge.specs.Fronts.{frontAt, Placed}
 use Rattle.merge.proofs.Taking.{leaf-inside, sought-as}
-use Rattle.merge.proofs.Starting.{Starting, starting-start, starting-more, starting-end, sized-set, sized-none}
+use Rattle.merge.proofs.Starting.{Starting, starting-start, starting-more, starting-end, placed-set, placed-all}
+use Rattle.merge.proofs.Framing.{placed-none, placed-within}
 use mathlib.Core.Path.{_≡_, refl, _∙_}
 use mathlib.Core.List.{List}
 use Prim.Native.Nat.{ℕ, _-_, _≤_, _<_}
@@ -26,7 +27,7 @@ Inv-loop text stops marks count leaves ends none fronts₀ j₀ fronts j =
     × (length fronts ≡ 8)
     × (none .next ≡ 1)
     × (none .size ≡ 0)
-    × ((k : ℕ) → k < length ends → frontAt fronts k .size ≤ 64)
+    × ((k : ℕ) → k < length ends → Placed (length leaves) (frontAt fronts k))
     × ((nodes : List Node) (columns : ℕ) (terms : List (List Term)) → WordsAre text stops marks count nodes → AreLeaves columns (cut leaves ends) terms → Starting nodes columns leaves ends terms fronts j)
 
 abbrev μ-loop : tie.MeasureT-loop
@@ -39,7 +40,7 @@ loop-holds : tie.Need-loop-holds Inv-loop μ-loop
 loop-holds c =
     let p = c .before .before .before .before .before .before .pre in
     let n = c .no-front .ensures in
-    (p .0, p .1, p .2, omega arith, refl, n .2, n .1, λ k z. sized-none (c .no-front .result) (n .1) k, λ nodes columns terms w are. starting-start are)
+    (p .0, p .1, p .2, omega arith, refl, n .2, n .1, λ k z. placed-all (c .no-front .result) (placed-none (n .0) (n .1)) k, λ nodes columns terms w are. starting-start are)
 
 part-requires : tie.Need-part-requires Inv-loop μ-loop
 part-requires c κs = search needs
@@ -80,7 +81,8 @@ loop-again c =
       length-set (l .fronts) (l .j) (c .seek .result) ∙ v .4,
       v .5,
       v .6,
-      sized-set (l .fronts) (l .j) (length (a .ends .now)) (c .seek .result) h (c .seek .ensures .0) (v .7),
+      placed-set (l .fronts) (l .j) (length (a .ends .now)) (c .seek .result) h
+          (placed-within (leaf-inside (a .leaves .now) (a .ends .now) (l .j) (c .before .leaf-start .result) (c .before .before .part .result .now) (v .0) t (c .before .before .part .ensures) (c .before .leaf-start .ensures)) (c .seek .ensures .0)) (v .7),
       λ nodes columns terms w are.
           starting-more (l .j) (c .before .before .before .before .before .no-front .result) (c .seek .result) (v .5) (v .6) (v .8 nodes columns terms w are) t h
           (sought-as (c .before .before .part .ensures) (c .before .leaf-start .ensures) (λ ts rs. c .seek .ensures .1 nodes columns ts w rs)),

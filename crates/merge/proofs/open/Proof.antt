@@ -26,7 +26,7 @@ Inv-loop text stops marks count leaves ends docids₀ bodies₀ lasts₀ masks�
     Able leaves ends fronts docids₀ bodies₀ lasts₀ masks₀ follows₀ n
     × Lengths docids₀ bodies₀ lasts₀ masks₀ follows₀ docids bodies lasts masks follows
     × ((nodes : List Node) (columns : ℕ) (terms : List (List Term)) → WordsAre text stops marks count nodes → LeavesAre columns leaves ends terms → length leaves < wordSize * (length docids₀ + 1) → Going nodes columns terms leaves ends fronts docids bodies lasts masks follows n)
-    × OpenFrame docids₀ docids bodies₀ bodies lasts₀ lasts masks₀ masks follows₀ follows n
+    × OpenFrame leaves docids₀ docids bodies₀ bodies lasts₀ lasts masks₀ masks follows₀ follows n
 
 abbrev μ-loop : tie.MeasureT-loop
 μ-loop text stops marks count leaves ends docids₀ bodies₀ lasts₀ masks₀ follows₀ fronts₀ n₀ docids bodies lasts masks follows fronts n = length docids₀ - n
@@ -40,7 +40,7 @@ returns c = (
       false-not-true (sym (not-true _ (c .if1 .taken)) ∙ c .before .is-able .ensures .1 (h .cuts, h .few, h .small, b, l, m, f)),
   (
     λ o. record { answer = refl; docids-same = refl; bodies-same = refl; lasts-same = refl; masks-same = refl; follows-same = refl },
-    frame-none _ _ _ _ _,
+    frame-none _ _ _ _ _ _,
   ),
 )
 
@@ -55,7 +55,7 @@ loop-holds c =
         cuts = k .0;
         few = k .1;
         small = k .2;
-        sized = c .fronts-of .ensures .0;
+        placed = c .fronts-of .ensures .0;
         body-room = k .3;
         last-room = k .4;
         mask-room = k .5;
@@ -65,11 +65,11 @@ loop-holds c =
       record { docid-length = refl; body-length = refl; last-length = refl; mask-length = refl; follow-length = refl },
       λ nodes columns terms w h r.
           going-start (a .docids .now) (a .bodies .now) (a .lasts .now) (a .masks .now) (a .follows .now) (c .fronts-of .ensures .1 nodes columns terms w (h .are)),
-      frame-none _ _ _ _ _,
+      frame-none _ _ _ _ _ _,
     )
 
 least-requires : tie.Need-least-requires Inv-loop μ-loop
-least-requires c κs = (c .loop .inv .0 .few, c .loop .inv .0 .sized)
+least-requires c κs = (c .loop .inv .0 .few, λ j h. c .loop .inv .0 .placed j h .sized)
 
 same-length : tie.Need-same-length Inv-loop μ-loop
 same-length c = c .before .before .loop .inv .1 .docid-length
@@ -110,7 +110,7 @@ take-word-requires : tie.Need-take-word-requires Inv-loop μ-loop
 take-word-requires c κs =
     let l = c .before .before .before .before .before .before .before .before .loop in
     let v = l .inv in
-    (able-as (l .docids) (l .bodies) (l .lasts) (l .masks) (l .follows) (v .0) (v .1), v .0 .sized (c .before .before .before .before .before .before .before .least .result) (c .before .before .before .before .before .before .if2 .left))
+    (able-as (l .docids) (l .bodies) (l .lasts) (l .masks) (l .follows) (v .0) (v .1), v .0 .placed (c .before .before .before .before .before .before .before .least .result) (c .before .before .before .before .before .before .if2 .left) .sized)
 
 same-length-6 : tie.Need-same-length-6 Inv-loop μ-loop
 same-length-6 c = c .before .before .before .before .before .before .before .before .before .before .before .before .take-word .kept .1 .1 .1 .1 .1 .1 .1 .1 .0 ∙ c .before .before .before .before .before .before .before .before .before .before .before .before .before .before .before .before .before .before .before .before .before .loop .inv .1 .docid-length
@@ -142,7 +142,7 @@ returns-3 c =
           absurd (omega (arith, k, c .if3 .taken)),
       (
         λ o. absurd (o (record { cuts = v .cuts; few = v .few; small = v .small; body-room = v .body-room; last-room = v .last-room; mask-room = v .mask-room; follow-room = v .follow-room })),
-        subst (OpenFrame (a .docids .now) _ (a .bodies .now) _ (a .lasts .now) _ (a .masks .now) _ (a .follows .now) _) q
+        subst (OpenFrame (a .leaves .now) (a .docids .now) _ (a .bodies .now) _ (a .lasts .now) _ (a .masks .now) _ (a .follows .now) _) q
             (c .before .before .before .before .before .before .before .before .before .before .before .before .take-word .ensures .1 .1 (a .docids .now) (a .bodies .now) (a .lasts .now) (a .masks .now) (a .follows .now) (sym (z .docid-length)) (l .inv .3)),
       ),
     )

@@ -7,6 +7,7 @@ use Rattle.leaf.proofs.Rest.{RestIs}
 use Rattle.leaf.proofs.General.{part-length}
 use Rattle.leaf.proofs.Heads.{head-sound}
 use Rattle.merge.specs.Matching.{maskOf, WordsAre}
+use Rattle.merge.proofs.Framing.{placed-none}
 use Rattle.merge.proofs.Seeking.{Seeking, seeking-start, seeking-end, seeking-refused, seeking-next, seeking-found, put-length}
 use mathlib.Core.Path.{_≡_, sym, ap, _∙_}
 use mathlib.Core.List.{List, []}
@@ -46,7 +47,7 @@ returns c =
     let small : length s < 2 ^ 63 = omega (arith, c .before .before .before .before .before .before .before .before .before .before .before .good .1 .1 .1 .1 .0 .1) in
     let l = c .before .before .before .before .before .loop in
     let e = sym (c .before .before .before .head-at .ensures) ∙ c .before .enum-told .given .1 in (
-      omega (arith, c .no-front .ensures),
+      placed-none (c .no-front .ensures .0) (c .no-front .ensures .1),
       λ nodes columns ts w r.
           seeking-refused nodes columns s small (l .inv .1 nodes columns ts (c .before .before .before .before .before .before .before .before .before .before .before .args .front .size) w r) (c .before .before .before .before .loop-test .taken) e,
     )
@@ -189,7 +190,7 @@ returns-3 c =
     let s = c .before .before .before .before .before .before .before .before .args .leaf .now in
     let small : length s < 2 ^ 63 = omega (arith, c .before .before .before .before .before .before .before .before .good .1 .1 .1 .1 .0 .1) in
     let l = c .before .before .loop in (
-      omega (arith, c .no-front2 .ensures),
+      placed-none (c .no-front2 .ensures .0) (c .no-front2 .ensures .1),
       λ nodes columns ts w r.
           seeking-end nodes columns s small (c .before .before .before .before .before .before .before .before .args .base) ts (c .no-front2 .result) (l .inv .1 nodes columns ts (c .before .before .before .before .before .before .before .before .args .front .size) w r) (c .before .loop-test .left) (c .no-front2 .ensures .0),
     )

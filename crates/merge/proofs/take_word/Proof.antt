@@ -9,7 +9,7 @@ use Rattle.cursors.specs.Arrays.{Cursor, Hold}
 use Rattle.merge.specs.Matching.{WordsAre}
 use Rattle.merge.specs.Fronts.{wordOf, frontAt, headLists, FrontsAre, Able}
 use Rattle.merge.specs.Opening.{OpenFrame}
-use Rattle.merge.proofs.Framing.{has-mask, frame-more}
+use Rattle.merge.proofs.Framing.{has-mask, placed-within, frame-more}
 use mathlib.Core.Path.{_≡_, refl, sym, _∙_}
 use mathlib.Core.List.{List}
 use mathlib.Core.Bool.{true, false}
@@ -32,7 +32,7 @@ Inv-loop text stops marks count leaves ends front docids₀ bodies₀ lasts₀ m
     → Hold leaves docids₀ bodies₀ lasts₀ masks₀ follows₀ from cs → from + length (headLists (wordOf front) left) ≤ length docids₀
     → Taking nodes columns (wordOf front) leaves ends left cs docids bodies lasts masks follows fronts n follow j)
     × (follow ≤ 1)
-    × ((d b l m f : List ℕ) → length d ≡ length docids₀ → OpenFrame d docids₀ b bodies₀ l lasts₀ m masks₀ f follows₀ from → OpenFrame d docids b bodies l lasts m masks f follows n)
+    × ((d b l m f : List ℕ) → length d ≡ length docids₀ → OpenFrame leaves d docids₀ b bodies₀ l lasts₀ m masks₀ f follows₀ from → OpenFrame leaves d docids b bodies l lasts m masks f follows n)
 
 abbrev μ-loop : tie.MeasureT-loop
 μ-loop text stops marks count leaves ends front docids₀ bodies₀ lasts₀ masks₀ follows₀ from fronts₀ n₀ follow₀ j₀ docids bodies lasts masks follows fronts n follow j = length ends - j
@@ -58,7 +58,7 @@ array-copy-out-other : tie.Need-array-copy-out-other Inv-loop μ-loop
 array-copy-out-other c = omega (arith, c .before .loop .inv .0 .few)
 
 has-word-requires : tie.Need-has-word-requires Inv-loop μ-loop
-has-word-requires c κs = (c .before .before .loop .inv .0 .sized (c .before .before .loop .j) (c .before .loop-test .taken), c .before .before .loop .inv .4)
+has-word-requires c κs = (c .before .before .loop .inv .0 .placed (c .before .before .loop .j) (c .before .loop-test .taken) .sized, c .before .before .loop .inv .4)
 
 add-j : tie.Need-add-j Inv-loop μ-loop
 add-j c = search needs
@@ -158,7 +158,8 @@ loop-again-2 c =
     let t = c .before .before .before .before .before .before .before .before .before .before .before .before .before .before .before .before .before .before .before .before .before .before .before .loop-test .taken in
     let room = c .before .before .before .before .before .before .before .before .before .before .before .before .before .before .before .before .before .before .before .if2 .left in
     let other = c .seek .result in (
-      able-more (l .j) other b (omega (arith, room, z .docid-length)) (omega (arith, l .inv .3, b .few, t)) (c .seek .ensures .0),
+      able-more (l .j) other b (omega (arith, room, z .docid-length)) (omega (arith, l .inv .3, b .few, t))
+          (placed-within (leaf-inside (a .leaves .now) (a .ends .now) (l .j) (c .before .leaf-start .result) (c .before .before .part .result .now) (b .cuts) t (c .before .before .part .ensures) (c .before .leaf-start .ensures)) (c .seek .ensures .0)),
       omega (arith, l .inv .1),
       omega arith,
       length-set (l .fronts) (l .j) other ∙ l .inv .3,
@@ -173,9 +174,10 @@ loop-again-2 c =
           (sought-as (c .before .before .part .ensures) (c .before .leaf-start .ensures) (λ ts rs. c .seek .ensures .1 nodes columns ts w rs))),
       omega arith,
       λ d bo la m fo e g.
-          frame-more (l .inv .8 d bo la m fo e g) (f .docid) (f .body) (f .last) (f .mask) (l .follow) (omega (arith, room, z .docid-length, e)) (omega (arith, room, z .docid-length, z .mask-length, b .mask-room)) (omega (arith, room, z .docid-length, z .follow-length, b .follow-room))
-          (has-mask f (a .front) (sym (c .before .before .before .before .before .before .before .before .before .before .before .before .before .before .before .before .before .before .before .before .before .has-word .ensures) ∙ not-false _ (c .before .before .before .before .before .before .before .before .before .before .before .before .before .before .before .before .before .before .before .before .if1 .left)))
-          (l .inv .7) (p .0) (p .1) (p .2) (p .3) (p .4),
+          let some = has-mask f (a .front) (sym (c .before .before .before .before .before .before .before .before .before .before .before .before .before .before .before .before .before .before .before .before .before .has-word .ensures) ∙ not-false _ (c .before .before .before .before .before .before .before .before .before .before .before .before .before .before .before .before .before .before .before .before .if1 .left)) in
+          let inside = b .placed (l .j) t .inside some in
+          frame-more (l .inv .8 d bo la m fo e g) (f .docid) (f .body) (f .last) (f .mask) (l .follow) (omega (arith, room, z .docid-length, e)) (omega (arith, room, z .docid-length, z .body-length, b .body-room)) (omega (arith, room, z .docid-length, z .last-length, b .last-room)) (omega (arith, room, z .docid-length, z .mask-length, b .mask-room)) (omega (arith, room, z .docid-length, z .follow-length, b .follow-room))
+          some (inside .0) (inside .1) (l .inv .7) (p .0) (p .1) (p .2) (p .3) (p .4),
     )
 
 same-length-6 : tie.Need-same-length-6 Inv-loop μ-loop
