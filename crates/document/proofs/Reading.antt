@@ -13,12 +13,12 @@ use Rattle.common.specs.Bytes.{part}
 use Rattle.varint.specs.Varint.{encode}
 use Rattle.varint.proofs.Laws.{encode-pos}
 use Rattle.doclist.specs.Doclist.{encodeList}
-use Rattle.leaf.specs.Leaf.{Term, WellFormed, maxWord, shared, sized, termBytes, encodeTerms, encodeLeaf, ListIs, NoTerm}
+use Rattle.leaf.specs.Leaf.{Term, maxWord, shared, sized, termBytes, encodeTerms, encodeLeaf, LeafIs, ListIs, NoTerm}
 use Rattle.leaf.specs.Answers.{CheckShape, checkLeaf}
 use Rattle.leaf.specs.declared.LeafCheck.the-variants.{Accepted}
 use Rattle.leaf.proofs.Laws.{checked}
 use Rattle.leaf.proofs.Once.{list-part}
-use Rattle.lookup.specs.Words.{WordShape, LookupShape, LeafIs, WordIs}
+use Rattle.lookup.specs.Words.{WordShape, LookupShape, WordIs}
 use Rattle.lookup.specs.declared.WordAnswer.the-variants.{Found, Nothing}
 use Rattle.lookup.proofs.WordLaws.{same-terms}
 use Rattle.document.specs.Document.{StandsAt, allWords, distinct, documentTerm, documentTerms, leafOrNothing, documentLeaf, Writable, IsDocument}
@@ -102,22 +102,22 @@ module _ (docid : ℕ) (texts : List (List ℕ)) (h : Writable docid texts) (som
 
   -- the leaf is accepted for that column count
   pub leaf-accepted : checkLeaf (length texts) (documentLeaf docid texts) ≡ Accepted
-  leaf-accepted = checked (length texts) (documentLeaf docid texts) refl .1 .1 .0 .1 (leaf-shape, (documentTerms docid texts, document-well-formed docid texts h some, leaf-bytes))
+  leaf-accepted = checked (length texts) (documentLeaf docid texts) refl .1 .1 .0 .1 (leaf-shape, (documentTerms docid texts, leaf-is))
 
   -- an accepted leaf whose entries are exactly the document's is this leaf, byte for byte
-  pub leaf-only : (s : List ℕ) → checkLeaf (length texts) s ≡ Accepted → ((ts : List Term) → WellFormed (length texts) ts → s ≡ encodeLeaf ts → IsDocument docid texts ts) → s ≡ documentLeaf docid texts
+  pub leaf-only : (s : List ℕ) → checkLeaf (length texts) s ≡ Accepted → ((ts : List Term) → LeafIs (length texts) s ts → IsDocument docid texts ts) → s ≡ documentLeaf docid texts
   leaf-only s e f =
       let c = checked (length texts) s refl .1 .1 .0 .0 e .1 in
-      c .2 ∙ ap encodeLeaf (document-only docid texts (c .0) (f (c .0) (c .1) (c .2)) h (c .1)) ∙ sym leaf-bytes
+      c .1 .bytes ∙ ap encodeLeaf (document-only docid texts (c .0) (f (c .0) (c .1)) h (c .1 .good)) ∙ sym leaf-bytes
 
   -- the leaf has no other content than the document's terms
-  pub leaf-content : (ts : List Term) → WellFormed (length texts) ts → documentLeaf docid texts ≡ encodeLeaf ts → ts ≡ documentTerms docid texts
-  leaf-content ts w e =
-      same-terms (length texts) (documentLeaf docid texts) ts (documentTerms docid texts) (document-size docid texts h) (record { good = w; bytes = e }) leaf-is
+  pub leaf-content : (ts : List Term) → LeafIs (length texts) (documentLeaf docid texts) ts → ts ≡ documentTerms docid texts
+  leaf-content ts l =
+      same-terms (length texts) (documentLeaf docid texts) ts (documentTerms docid texts) (document-size docid texts h) l leaf-is
 
   -- and so it says the document's words, columns and positions
-  pub leaf-says : (ts : List Term) → WellFormed (length texts) ts → documentLeaf docid texts ≡ encodeLeaf ts → IsDocument docid texts ts
-  leaf-says ts w e = subst (IsDocument docid texts) (sym (leaf-content ts w e)) (document-is docid texts)
+  pub leaf-says : (ts : List Term) → LeafIs (length texts) (documentLeaf docid texts) ts → IsDocument docid texts ts
+  leaf-says ts l = subst (IsDocument docid texts) (sym (leaf-content ts l)) (document-is docid texts)
 
   lookup-shape : (w : List ℕ) → 1 ≤ length w → length w ≤ maxWord → LookupShape (length texts) (documentLeaf docid texts) w
   lookup-shape w l k = record { leaf-right = leaf-shape; word-right = record { some = l; short = k } }

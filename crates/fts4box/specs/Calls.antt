@@ -6,7 +6,7 @@ use lib.ListN.{length}
 use mathlib.Core.Path.{_≡_}
 use mathlib.Core.Logic.{_↔_}
 use mathlib.Core.List.{List}
-use Rattle.leaf.specs.Leaf.{Term, WellFormed, encodeLeaf}
+use Rattle.leaf.specs.Leaf.{IsLeaf}
 use Rattle.leaf.specs.Answers.{CheckShape, checkNumber}
 use Rattle.leaf.specs.declared.LeafCheck.{LeafCheck}
 use Rattle.leaf.specs.declared.LeafCheck.the-variants as check
@@ -25,7 +25,7 @@ use Rattle.search.specs.declared.Answer as listing
 pub record Checked (columns : ℕ) (leaf : List ℕ) (number second : ℕ) : Type 0 where
   pub answer : LeafCheck
   pub shape : (answer ≡ check.Shape) ↔ (CheckShape columns leaf → ⊥)
-  pub accepted : (answer ≡ check.Accepted) ↔ (CheckShape columns leaf × ((ts : List Term) × WellFormed columns ts × (leaf ≡ encodeLeaf ts)))
+  pub accepted : (answer ≡ check.Accepted) ↔ (CheckShape columns leaf × IsLeaf columns leaf)
   pub number-is : number ≡ checkNumber answer
   pub second-is : second ≡ 0
 

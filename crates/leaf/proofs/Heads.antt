@@ -4,11 +4,10 @@ use Prim.Native.Nat.{ℕ, _+_, _-_, _^_, _≤_, _<_}
 use native.Mathlib.Omega.{arith}
 use mathlib.Core.Path.{_≡_, refl, sym, ap, ap₂, _∙_}
 use mathlib.Core.Bool.{false}
-use mathlib.Core.List.{List, [], _++_, append-assoc}
+use mathlib.Core.List.{List, _++_, append-assoc}
 use lib.ListN.{length, drop}
 use lib.Dec.{ltb, eqb}
 use borrow.Author.Tests.{le-ltb, eq-eqb, ne-eqb, ltb-false, eqb-false}
-use Rattle.common.specs.Pick.{pick}
 use Rattle.common.specs.Bytes.{part}
 use Rattle.common.proofs.Cases.{pick-case, same-or}
 use Rattle.common.proofs.Lists.{drop-past, drop-room}
@@ -17,6 +16,7 @@ use Rattle.varint.specs.declared.Varint.the-variants as varint
 use Rattle.varint.proofs.Laws.{varint-case, stored-at, reads, next-after, next-within}
 use Rattle.leaf.specs.Leaf.{maxWord, sized}
 use Rattle.leaf.specs.Reading.{onHead, suffixAt, firstWord, headAt}
+use Rattle.leaf.specs.Rest.{prefixNumber}
 use Rattle.leaf.specs.declared.Head.{Head}
 use Rattle.leaf.specs.declared.Head.the-variants.{Found, Refused}
 use Rattle.leaf.proofs.General.{part-rest, part-length, part-here}
@@ -47,10 +47,6 @@ pub found-next : {h : Head} {p f n l x p′ f′ n′ l′ x′ : ℕ} → h ≡
 found-next e k = cc
 
 -- ---- what is found is stored
-
--- a prefix's number is left out at the first word's place
-abbrev pub prefixNumber : ℕ → ℕ → List ℕ
-prefixNumber at p = pick (eqb at firstWord) [] (encode p)
 
 -- the bytes from `at` up to `next` are a word and a posting list, as they are stored
 pub record HeadIs (s : List ℕ) (at prefix from size list next : ℕ) : Type 0 where

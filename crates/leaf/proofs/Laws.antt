@@ -17,14 +17,15 @@ use Rattle.varint.specs.Varint.{encode, encodeIn, maxBytes, readAt}
 use Rattle.varint.specs.declared.Varint.the-variants as varint
 use Rattle.varint.proofs.Laws.{varint-case, refused-no-value, value-same, stored-at, reads, next-within}
 use Rattle.doclist.proofs.Unique.{list-unique}
-use Rattle.leaf.specs.Leaf.{Term, WellFormed, termBytes, encodeTerms, encodeLeaf, SoundFront}
+use Rattle.leaf.specs.Leaf.{Term, WellFormed, termBytes, encodeTerms, encodeLeaf, LeafIs, IsLeaf, NoLeaf, SoundFront}
 use Rattle.leaf.specs.Reading.{firstWord, walkFrom, walkOf, isLeaf}
+use Rattle.leaf.specs.Rest.{restBytes, RestIs}
 use Rattle.leaf.specs.Answers.{maxLeaves, checkNumber, CheckShape, checkLeaf}
 use Rattle.leaf.specs.declared.Sound.{Sound}
 use Rattle.leaf.specs.declared.LeafCheck.{LeafCheck}
 use Rattle.leaf.specs.declared.LeafCheck.the-variants.{Accepted, Shape, Broken}
 use Rattle.leaf.proofs.General.{front-here}
-use Rattle.leaf.proofs.Rest.{restBytes, RestIs, leaf-rest, head-there, head-complete, none-left}
+use Rattle.leaf.proofs.Rest.{leaf-rest, head-there, head-complete, none-left}
 use Rattle.leaf.proofs.Walking.{stop, walk-end, front-sound, Passed, walk-passes}
 
 -- ---- the sound front
@@ -99,7 +100,7 @@ module _ (count : ℕ) (s : List ℕ) (small : length s < 2 ^ 63) where
 
   -- ---- the law
 
-  leaf-sound : isLeaf count s ≡ true → (ts : List Term) × WellFormed count ts × (s ≡ encodeLeaf ts)
+  leaf-sound : isLeaf count s ≡ true → IsLeaf count s
   leaf-sound e =
       let f = walk-front in
       let a : Bool = ltb 0 (walkOf count s .words) in
@@ -107,13 +108,16 @@ module _ (count : ℕ) (s : List ℕ) (small : length s < 2 ^ 63) where
       let h : 0 < walkOf count s .words = ltb-true _ _ (both-left a b e) in
       let n : walkOf count s .end ≡ length s = eqb-true _ _ (both-right a b e) in (
         f .terms,
-        record { some = omega (arith, f .counted); terms = f .good },
-        sym (take-length s) ∙ ap (λ (k : ℕ). take k s) (sym n) ∙ f .bytes h,
+        record {
+          good = record { some = omega (arith, f .counted); terms = f .good };
+          bytes = sym (take-length s) ∙ ap (λ (k : ℕ). take k s) (sym n) ∙ f .bytes h;
+        },
       )
 
-  leaf-complete : (ts : List Term) → WellFormed count ts → s ≡ encodeLeaf ts → isLeaf count s ≡ true
-  leaf-complete ts w e =
-      let d : s ≡ encodeLeaf ts ++ [] = e ∙ sym (append-nil (encodeLeaf ts)) in
+  leaf-complete : (ts : List Term) → LeafIs count s ts → isLeaf count s ≡ true
+  leaf-complete ts l =
+      let w = l .good in
+      let d : s ≡ encodeLeaf ts ++ [] = l .bytes ∙ sym (append-nil (encodeLeaf ts)) in
       let p = passed ts [] w d in
       let z : length s ≤ p .next = omega (arith, simp length-drop at (ap length (p .behind))) in
       let q : walkOf count s ≡ stop (0 + length ts) (p .next) =
@@ -124,8 +128,8 @@ module _ (count : ℕ) (s : List ℕ) (small : length s < 2 ^ 63) where
       let b : p .next ≡ length s = omega (arith, p .inside) in
       rw q (both-true (ltb 0 (0 + length ts)) (eqb (p .next) (length s)) (lt-ltb _ _ a) (eq-eqb _ _ b))
 
-  pub leaf-law : (isLeaf count s ≡ true) ↔ ((ts : List Term) × WellFormed count ts × (s ≡ encodeLeaf ts))
-  leaf-law = (leaf-sound, λ h. leaf-complete (h .0) (h .1) (h .2))
+  pub leaf-law : (isLeaf count s ≡ true) ↔ IsLeaf count s
+  leaf-law = (leaf-sound, λ h. leaf-complete (h .0) (h .1))
 
   -- ---- bytes have one content
 
@@ -174,15 +178,8 @@ differ {ℓ} : {X : Type ℓ} {r : LeafCheck} (a b : LeafCheck) → r ≡ a → 
 differ a b e f n = absurd (n (ap checkNumber (sym e ∙ f)))
 
 module _ (count : ℕ) (s : List ℕ) where
-  -- the bytes are a leaf; they are none
-  abbrev IsLeaf : Type 0
-  IsLeaf = (ts : List Term) × WellFormed count ts × (s ≡ encodeLeaf ts)
-
-  abbrev NoLeaf : Type 0
-  NoLeaf = (ts : List Term) → WellFormed count ts → s ≡ encodeLeaf ts → ⊥
-
   check-case : {X : Type 0} {r : LeafCheck} → r ≡ checkLeaf count s → ((CheckShape count s → ⊥) → r ≡ Shape → X)
-      → (CheckShape count s → IsLeaf → r ≡ Accepted → X) → (CheckShape count s → NoLeaf → r ≡ Broken → X) → X
+      → (CheckShape count s → IsLeaf count s → r ≡ Accepted → X) → (CheckShape count s → NoLeaf count s → r ≡ Broken → X) → X
   check-case {X} {r} e f g k =
       bool-case (rightShape count s) (λ t. right t (shape-is count s t)) (λ t. f (λ h. false-not-true (sym t ∙ shape-true count s h)) (e ∙ rw t refl))
     where
@@ -191,14 +188,14 @@ module _ (count : ℕ) (s : List ℕ) where
           let l = leaf-law count s (omega (arith, h .size)) in
           bool-case (isLeaf count s)
           (λ u. g h (l .0 u) (e ∙ rw (t, u) refl))
-          (λ u. k h (λ ts w b. false-not-true (sym u ∙ l .1 (ts, w, b))) (e ∙ rw (t, u) refl))
+          (λ u. k h (λ ts i. false-not-true (sym u ∙ l .1 (ts, i))) (e ∙ rw (t, u) refl))
 
 -- an answer that is what the check gives tells the shape, the leaves, and what is none
 pub checked : {r : LeafCheck} (count : ℕ) (s : List ℕ) → r ≡ checkLeaf count s
     → (r ≡ checkLeaf count s)
     × (((r ≡ Shape) ↔ (CheckShape count s → ⊥))
-    × (((r ≡ Accepted) ↔ (CheckShape count s × ((ts : List Term) × WellFormed count ts × (s ≡ encodeLeaf ts))))
-    × ((r ≡ Broken) ↔ (CheckShape count s × ((ts : List Term) → WellFormed count ts → s ≡ encodeLeaf ts → ⊥)))))
+    × (((r ≡ Accepted) ↔ (CheckShape count s × IsLeaf count s))
+    × ((r ≡ Broken) ↔ (CheckShape count s × NoLeaf count s))))
 checked count s e = (
   e,
   (
@@ -209,11 +206,11 @@ checked count s e = (
     (
       (
         λ q. check-case count s e (λ _ p. differ Shape Accepted p q (λ z. omega arith)) (λ h t _. (h, t)) (λ _ _ p. differ Broken Accepted p q (λ z. omega arith)),
-        λ h. check-case count s e (λ n _. absurd (n (h .0))) (λ _ _ p. p) (λ _ n _. absurd (n (h .1 .0) (h .1 .1) (h .1 .2))),
+        λ h. check-case count s e (λ n _. absurd (n (h .0))) (λ _ _ p. p) (λ _ n _. absurd (n (h .1 .0) (h .1 .1))),
       ),
       (
         λ q. check-case count s e (λ _ p. differ Shape Broken p q (λ z. omega arith)) (λ _ _ p. differ Accepted Broken p q (λ z. omega arith)) (λ h n _. (h, n)),
-        λ h. check-case count s e (λ n _. absurd (n (h .0))) (λ _ t _. absurd (h .1 (t .0) (t .1) (t .2))) (λ _ _ p. p),
+        λ h. check-case count s e (λ n _. absurd (n (h .0))) (λ _ t _. absurd (h .1 (t .0) (t .1))) (λ _ _ p. p),
       ),
     ),
   ),

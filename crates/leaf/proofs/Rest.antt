@@ -13,33 +13,20 @@ use Rattle.common.specs.Bytes.{part}
 use Rattle.common.proofs.Lists.{drop-past}
 use Rattle.varint.specs.Varint.{encodeIn}
 use Rattle.doclist.specs.Doclist.{encodeList}
-use Rattle.leaf.specs.Leaf.{Term, Terms, WellFormed, maxWord, shared, termBytes, encodeTerms, encodeLeaf}
+use Rattle.leaf.specs.Leaf.{Term, WellFormed, maxWord, shared, encodeTerms, encodeLeaf}
 use Rattle.leaf.specs.Reading.{firstWord, headAt, joinsOf}
+use Rattle.leaf.specs.Rest.{restBytes, RestIs}
 use Rattle.leaf.specs.declared.Head.the-variants.{Found, Refused}
 use Rattle.leaf.proofs.General.{part-here}
 use Rattle.leaf.proofs.Words.{is-joins, parted}
-use Rattle.leaf.proofs.Heads.{found-prefix, found-from, found-size, found-list, found-next, not-found, prefixNumber, head-sound, HeadHere, head-found}
+use Rattle.leaf.proofs.Heads.{found-prefix, found-from, found-size, found-list, found-next, not-found, head-sound, HeadHere, head-found}
 
 -- ---- terms stored from a place on
-
--- the bytes of terms from the place `at` on, behind the word `before`
-abbrev pub restBytes : ℕ → List ℕ → List Term → List ℕ
-restBytes at before [] = []
-restBytes at before (t ∷ ts) =
-    prefixNumber at (shared before (t .word))
-    ++ (termBytes (drop (shared before (t .word)) (t .word)) (t .entries) ++ encodeTerms (t .word) ts)
 
 -- past the first word's place they are stored as the later words are
 pub rest-later : (at : ℕ) (before : List ℕ) (ts : List Term) → (at ≡ firstWord → ⊥) → restBytes at before ts ≡ encodeTerms before ts
 rest-later at before [] h = refl
 rest-later at before (t ∷ ts) h = rw (ne-eqb at firstWord h) refl
-
--- good terms `ts` are stored in `s` from `at` on, behind the word `before`; then comes `tail`, which is empty in a leaf
-pub record RestIs (count : ℕ) (s : List ℕ) (at : ℕ) (before : List ℕ) (ts : List Term) (tail : List ℕ) : Type 0 where
-  pub bytes : drop at s ≡ restBytes at before ts ++ tail
-  pub good : Terms count before ts
-  pub inside : at ≤ length s
-  pub first : at ≡ firstWord → before ≡ []
 
 -- what is found at `at` is the term `t`
 pub record Meets (count : ℕ) (s : List ℕ) (at : ℕ) (before : List ℕ) (t : Term) (ts : List Term) (tail : List ℕ) (prefix from size list next : ℕ) : Type 0 where

@@ -21,12 +21,13 @@ use Rattle.doclist.specs.declared.ListCheck.the-variants as list-check
 use Rattle.doclist.proofs.Law.{list-law}
 use Rattle.leaf.specs.Leaf.{Term, Terms, sized}
 use Rattle.leaf.specs.Reading.{onList, firstWord, headAt, joinsOf, walkFrom, walkOf}
+use Rattle.leaf.specs.Rest.{prefixNumber, restBytes, RestIs}
 use Rattle.leaf.specs.declared.Head.the-variants.{Found, Refused}
 use Rattle.leaf.specs.declared.Sound.{Sound}
 use Rattle.leaf.proofs.General.{length-take-most, part-length, part-first}
 use Rattle.leaf.proofs.Words.{joins-is, joins-le, Joined, joined}
-use Rattle.leaf.proofs.Heads.{head-case, prefixNumber, HeadIs, head-sound}
-use Rattle.leaf.proofs.Rest.{restBytes, rest-later, RestIs, Meets, head-there, head-complete}
+use Rattle.leaf.proofs.Heads.{head-case, HeadIs, head-sound}
+use Rattle.leaf.proofs.Rest.{rest-later, Meets, head-there, head-complete}
 
 -- ---- a word at a time
 

@@ -74,6 +74,27 @@ abbrev pub encodeLeaf : List Term → List ℕ
 encodeLeaf [] = encode 0
 encodeLeaf (t ∷ ts) = encode 0 ++ (termBytes (t .word) (t .entries) ++ encodeTerms (t .word) ts)
 
+-- ---- accepted leaves
+
+-- the bytes are a leaf of a table with `count` columns, and have these terms
+pub record LeafIs (count : ℕ) (leaf : List ℕ) (ts : List Term) : Type 0 where
+  pub good : WellFormed count ts
+  pub bytes : leaf ≡ encodeLeaf ts
+
+-- they are a leaf, of some terms; they are none
+abbrev pub IsLeaf : ℕ → List ℕ → Type 0
+IsLeaf count leaf = (ts : List Term) × LeafIs count leaf ts
+
+abbrev pub NoLeaf : ℕ → List ℕ → Type 0
+NoLeaf count leaf = (ts : List Term) → LeafIs count leaf ts → ⊥
+
+-- each of these byte strings is the leaf with these terms
+abbrev pub AreLeaves : ℕ → List (List ℕ) → List (List Term) → Type 0
+AreLeaves count [] [] = Unit {0}
+AreLeaves count [] (ts ∷ index) = ⊥
+AreLeaves count (b ∷ leaves) [] = ⊥
+AreLeaves count (b ∷ leaves) (ts ∷ index) = LeafIs count b ts × AreLeaves count leaves index
+
 -- ---- the sound front of any bytes
 
 -- the largest number of words from the start that keep all rules, and where they end; with no such word `end` says nothing

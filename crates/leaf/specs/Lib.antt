@@ -1,3 +1,4 @@
 pub mod Leaf
 pub mod Reading
+pub mod Rest
 pub mod Answers

@@ -9,11 +9,10 @@ use doclist::ListCheck;
 use varint::Varint;
 ghost use mathlib.Core.Path.{_≡_};
 ghost use mathlib.Core.Logic.{_↔_};
-ghost use mathlib.Core.List.{List};
 ghost use Prim.Native.Nat.{_+_, _≤_};
 ghost use lib.ListN.{length, take};
 ghost use lib.Seq.{paste};
-ghost use Rattle.leaf.specs.Leaf.{Term, WellFormed, encodeLeaf, SoundFront};
+ghost use Rattle.leaf.specs.Leaf.{IsLeaf, NoLeaf, SoundFront};
 ghost use Rattle.leaf.specs.Reading.{listAt, suffixAt, headAt, joinsOf, walkOf};
 ghost use Rattle.leaf.specs.Answers.{CheckShape, checkLeaf};
 
@@ -191,8 +190,8 @@ pub fn walk(s: &[u8], columns: u64) -> Sound
 pub fn check(leaf: &[u8], columns: u32) -> LeafCheck
     ensures reader { λ r. ⌜ r ≡ checkLeaf columns (now (leaf .entry)) ⌝ }
     ensures shape { λ r. ⌜ ((r ≡ LeafCheck.Shape) ↔ (CheckShape columns (now (leaf .entry)) → ⊥)) ⌝ }
-    ensures content { λ r. ⌜ ((r ≡ LeafCheck.Accepted) ↔ (CheckShape columns (now (leaf .entry)) × ((ts : List Term) × WellFormed columns ts × (now (leaf .entry) ≡ encodeLeaf ts)))) ⌝ }
-    ensures broken { λ r. ⌜ ((r ≡ LeafCheck.Broken) ↔ (CheckShape columns (now (leaf .entry)) × ((ts : List Term) → WellFormed columns ts → now (leaf .entry) ≡ encodeLeaf ts → ⊥))) ⌝ }
+    ensures content { λ r. ⌜ ((r ≡ LeafCheck.Accepted) ↔ (CheckShape columns (now (leaf .entry)) × IsLeaf columns (now (leaf .entry)))) ⌝ }
+    ensures broken { λ r. ⌜ ((r ≡ LeafCheck.Broken) ↔ (CheckShape columns (now (leaf .entry)) × NoLeaf columns (now (leaf .entry)))) ⌝ }
 {
     if columns == 0 {
         return LeafCheck::Shape;

@@ -22,13 +22,13 @@ use Rattle.doclist.specs.declared.EntryAt.{EntryAt}
 use Rattle.doclist.specs.declared.EntryAt.the-variants.{At, Absent, Refused}
 use Rattle.doclist.proofs.Places.{place-not-refused, placed, placed-within}
 use Rattle.leaf.specs.Leaf as leaf
-use Rattle.leaf.specs.Leaf.{Term, encodeLeaf, ListIs, NoTerm}
+use Rattle.leaf.specs.Leaf.{Term, encodeLeaf, LeafIs, IsLeaf, NoLeaf, ListIs, NoTerm}
 use Rattle.leaf.specs.Answers.{CheckShape}
 use Rattle.leaf.specs.declared.LeafCheck.{LeafCheck}
 use Rattle.leaf.specs.declared.LeafCheck.the-variants.{Accepted}
 use Rattle.leaf.proofs.LeafCheck as leaf-check
 use Rattle.leaf.proofs.Once.{term-once, list-once, list-not-none, list-good, list-part}
-use Rattle.lookup.specs.Words.{LeafIs, NoLeaf, Tells}
+use Rattle.lookup.specs.Words.{Tells}
 use Rattle.lookup.specs.declared.WordAnswer.the-variants as word
 use Rattle.lookup.specs.declared.WordAnswer.{WordAnswer}
 use Rattle.lookup.specs.Entries.{EntryIs, NoEntry, EntryTold, DecidingShape, LeavesAre, Decides, DecidingIs, entryPart}
@@ -145,14 +145,14 @@ not-accepted : (r : LeafCheck) → OneOf (1 ∷ 2 ∷ []) (tagOf leaf-check.the-
 not-accepted r k e = miss (1 ∷ 2 ∷ []) 0 tt (subst (λ (x : LeafCheck). OneOf (1 ∷ 2 ∷ []) (tagOf leaf-check.the-type x)) e k)
 
 pub refused-no-leaf : (count : ℕ) (bytes : List ℕ) (r : LeafCheck) → CheckShape count bytes
-    → ((r ≡ Accepted) ↔ (CheckShape count bytes × ((ts : List Term) × leaf.WellFormed count ts × (bytes ≡ encodeLeaf ts))))
+    → ((r ≡ Accepted) ↔ (CheckShape count bytes × IsLeaf count bytes))
     → OneOf (1 ∷ 2 ∷ []) (tagOf leaf-check.the-type r) → NoLeaf count bytes
-refused-no-leaf count bytes r h c k ts l = not-accepted r k (c .1 (h, (ts, l .good, l .bytes)))
+refused-no-leaf count bytes r h c k ts l = not-accepted r k (c .1 (h, (ts, l)))
 
 pub accepted-leaf : (count : ℕ) (bytes : List ℕ) (r : LeafCheck)
-    → ((r ≡ Accepted) ↔ (CheckShape count bytes × ((ts : List Term) × leaf.WellFormed count ts × (bytes ≡ encodeLeaf ts))))
-    → r ≡ Accepted → (ts : List Term) × LeafIs count bytes ts
-accepted-leaf count bytes r c e = let k = c .0 e in (k .1 .0, record { good = k .1 .1; bytes = k .1 .2 })
+    → ((r ≡ Accepted) ↔ (CheckShape count bytes × IsLeaf count bytes))
+    → r ≡ Accepted → IsLeaf count bytes
+accepted-leaf count bytes r c e = c .0 e .1
 
 -- ---- one answer is right
 

@@ -7,15 +7,15 @@ use mathlib.Core.List.{List, [], _∷_, _++_, append-assoc, append-nil}
 use lib.ListN.{length, drop, length-drop}
 use Rattle.common.specs.Bytes.{part}
 use Rattle.doclist.specs.Doclist.{encodeList}
-use Rattle.leaf.specs.Leaf.{Term, Before, shared, encodeTerms, encodeLeaf, ListIs, NoTerm}
+use Rattle.leaf.specs.Leaf.{Term, Before, shared, encodeTerms, encodeLeaf, LeafIs, ListIs, NoTerm}
 use Rattle.leaf.specs.Reading.{firstWord, headAt}
+use Rattle.leaf.specs.Rest.{RestIs}
 use Rattle.leaf.specs.declared.Head.the-variants as head
 use Rattle.leaf.proofs.Words.{before-irrefl}
 use Rattle.leaf.proofs.Heads.{head-sound}
-use Rattle.leaf.proofs.Rest.{RestIs, Meets, leaf-rest, head-complete, head-not-refused, none-left}
+use Rattle.leaf.proofs.Rest.{Meets, leaf-rest, head-complete, head-not-refused, none-left}
 use Rattle.leaf.proofs.Once.{passed-over, no-term-append}
 use Rattle.lookup.specs.Order.{OrderIs, StandsIs}
-use Rattle.lookup.specs.Words.{LeafIs}
 use Rattle.lookup.specs.declared.Order.{Order}
 use Rattle.lookup.specs.declared.Order.the-variants.{Less, Equal, Greater}
 

@@ -7,11 +7,11 @@ use mathlib.Core.Logic.{_↔_}
 use mathlib.Core.List.{List, [], _∷_}
 use lib.ListN.{length}
 use denote.Enum.Declared.{tagOf}
-use Rattle.leaf.specs.Leaf.{Term, ListIs, NoTerm}
+use Rattle.leaf.specs.Leaf.{Term, LeafIs, ListIs, NoTerm}
 use Rattle.leaf.specs.Answers.{maxLeaves}
 use Rattle.leaf.proofs.Laws.{leaf-unique}
 use Rattle.leaf.proofs.Once.{list-once, list-not-none}
-use Rattle.lookup.specs.Words.{LookupShape, LeafIs, Tells, WordIs, wordPart}
+use Rattle.lookup.specs.Words.{LookupShape, Tells, WordIs, wordPart}
 use Rattle.lookup.specs.declared.WordAnswer.{WordAnswer}
 use Rattle.lookup.specs.declared.WordAnswer.the-variants.{Found, Nothing, Shape, Broken}
 use Rattle.lookup.proofs.WordAnswer.{the-type}

@@ -9,9 +9,9 @@ use Rattle.common.specs.Bytes.{part}
 use Rattle.doclist.specs.Doclist.{maxColumns, entryPlace}
 use Rattle.doclist.specs.declared.EntryAt.{EntryAt}
 use Rattle.doclist.specs.declared.EntryAt.the-variants.{At, Absent, Refused}
-use Rattle.leaf.specs.Leaf.{Term, ListIs}
+use Rattle.leaf.specs.Leaf.{Term, LeafIs, NoLeaf, ListIs}
 use Rattle.leaf.specs.Answers.{maxLeaves}
-use Rattle.lookup.specs.Words.{WordShape, LeafIs, NoLeaf}
+use Rattle.lookup.specs.Words.{WordShape}
 use Rattle.lookup.specs.declared.EntryAnswer.{EntryAnswer}
 use Rattle.lookup.specs.declared.EntryAnswer.the-variants.{Newer, Older, Nothing, Shape, NewerBroken, OlderBroken}
 

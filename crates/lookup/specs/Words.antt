@@ -5,7 +5,7 @@ use mathlib.Core.Path.{_≡_}
 use mathlib.Core.List.{List, []}
 use lib.ListN.{length}
 use Rattle.common.specs.Bytes.{part}
-use Rattle.leaf.specs.Leaf.{Term, WellFormed, maxWord, encodeLeaf, ListIs, NoTerm}
+use Rattle.leaf.specs.Leaf.{Term, maxWord, LeafIs, NoLeaf, ListIs, NoTerm}
 use Rattle.leaf.specs.Answers.{CheckShape}
 use Rattle.lookup.specs.declared.WordAnswer.{WordAnswer}
 use Rattle.lookup.specs.declared.WordAnswer.the-variants.{Found, Nothing, Shape, Broken}
@@ -19,15 +19,6 @@ pub record WordShape (word : List ℕ) : Type 0 where
 pub record LookupShape (columns : ℕ) (leaf word : List ℕ) : Type 0 where
   pub leaf-right : CheckShape columns leaf
   pub word-right : WordShape word
-
--- the bytes are a leaf with these terms
-pub record LeafIs (columns : ℕ) (leaf : List ℕ) (ts : List Term) : Type 0 where
-  pub good : WellFormed columns ts
-  pub bytes : leaf ≡ encodeLeaf ts
-
--- the bytes are no leaf
-abbrev pub NoLeaf : ℕ → List ℕ → Type 0
-NoLeaf columns leaf = (ts : List Term) → LeafIs columns leaf ts → ⊥
 
 -- what an answer says of the terms of an accepted leaf
 abbrev pub Tells : List Term → List ℕ → WordAnswer → Type 0

@@ -8,9 +8,9 @@ ghost use mathlib.Core.List.{List};
 ghost use mathlib.Core.Bool.{true};
 ghost use Prim.Native.Nat.{ℕ, _≤_, _<_};
 ghost use lib.ListN.{length};
-ghost use Rattle.leaf.specs.Leaf.{Term};
+ghost use Rattle.leaf.specs.Leaf.{Term, LeafIs};
 ghost use Rattle.lookup.specs.Order.{OrderIs, SharedMost, StandsIs};
-ghost use Rattle.lookup.specs.Words.{LeafIs, Tells, WordIs, wordNumber, wordBeside, WordGiven};
+ghost use Rattle.lookup.specs.Words.{Tells, WordIs, wordNumber, wordBeside, WordGiven};
 ghost use Rattle.lookup.specs.Entries.{EntryTold, LeavesAre, Decides, DecidingShape, DecidingIs, entryNumber, entryBeside, EntryGiven};
 
 // Document 01's numbers of the answers.

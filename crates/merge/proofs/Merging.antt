@@ -8,8 +8,7 @@ use mathlib.Core.Logic.{_⊎_, inl, inr, ⊎-elim}
 use mathlib.Core.List.{List, [], _∷_, _++_, map, append-assoc, append-nil, List·Memᴰ, List·Memᴰ·head, List·Memᴰ·not-nil, List·Memᴰ·append-cases, List·Memᴰ·eq-of-singleton, Memᴰ·append-left, Memᴰ·append-right}
 use lib.ListN.{length, getD, length-append}
 use Rattle.doclist.specs.Doclist.{Entry}
-use Rattle.offsets.specs.Cut.{cut}
-use Rattle.offsets.proofs.Cuts.{startOf}
+use Rattle.offsets.specs.Cut.{cut, startOf}
 use Rattle.leaf.specs.Leaf.{Term, Before}
 use Rattle.lexer.specs.Token.{Node}
 use Rattle.cursors.specs.Groups.{Group}

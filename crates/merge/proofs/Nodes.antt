@@ -12,7 +12,7 @@ use lib.Pow.{pow-pos, pow-mono}
 use native.Mathlib.Nat.{lt-of-lt-of-le}
 use Rattle.common.specs.Pick.{pick}
 use Rattle.common.specs.Bytes.{part}
-use Rattle.offsets.proofs.Cuts.{startOf}
+use Rattle.offsets.specs.Cut.{startOf}
 use Rattle.leaf.proofs.General.{part-here}
 use Rattle.lexer.specs.Token.{Node, markOf, maxQuery, nodeBytes, nodeEnds, nodeMap}
 use Rattle.merge.specs.Matching.{matchesOf, maskOf, NodeAt, WordsAre}

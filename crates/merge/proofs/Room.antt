@@ -12,10 +12,10 @@ use Rattle.offsets.proofs.Cuts.{cut-joined}
 use Rattle.doclist.specs.Doclist.{Entry, entryBytes, encodeFrom, encodeList}
 use Rattle.doclist.specs.Doclist as doclist
 use Rattle.row.specs.Row.{bodyBytes}
-use Rattle.leaf.specs.Leaf.{Term, Terms, WellFormed, shared, sized, termBytes, encodeTerms, encodeLeaf}
+use Rattle.leaf.specs.Leaf.{Term, Terms, WellFormed, shared, sized, termBytes, encodeTerms, encodeLeaf, AreLeaves}
 use Rattle.leaf.proofs.Words.{parted}
 use Rattle.cursors.proofs.Bodies.{body-length}
-use Rattle.merge.specs.Opening.{AreLeaves, LeavesAre, wordSize}
+use Rattle.merge.specs.Opening.{LeavesAre, wordSize}
 use Rattle.merge.proofs.Words.{termsTotal, leavesTotal}
 
 -- how many bytes a list takes
@@ -82,9 +82,9 @@ leaves-size columns (b ∷ bs) [] h = absurd h
 leaves-size columns (b ∷ bs) (ts ∷ leaves) h =
     let k = leaves-size columns bs leaves (h .1) in
     let a = length-append b (flatten bs) in
-    let l = ap length (h .0 .1) in
-    let s = leaf-size columns ts (h .0 .0) in
-    let z = lists-size columns [] ts (h .0 .0 .terms) in
+    let l = ap length (h .0 .bytes) in
+    let s = leaf-size columns ts (h .0 .good) in
+    let z = lists-size columns [] ts (h .0 .good .terms) in
     let o = terms-one ts in (omega arith, omega arith)
 
 module _ {columns : ℕ} {bytes ends : List ℕ} {leaves : List (List Term)} (h : LeavesAre columns bytes ends leaves) where

@@ -15,7 +15,8 @@ use Rattle.leaf.specs.declared.Head.the-variants.{Found, Refused}
 use Rattle.leaf.proofs.General.{part-length}
 use Rattle.leaf.proofs.Words.{joins-le}
 use Rattle.leaf.proofs.Heads.{head-sound}
-use Rattle.leaf.proofs.Rest.{RestIs, Meets, head-complete, head-not-refused, none-left}
+use Rattle.leaf.specs.Rest.{RestIs}
+use Rattle.leaf.proofs.Rest.{Meets, head-complete, head-not-refused, none-left}
 use Rattle.lexer.specs.Token.{Node}
 use Rattle.merge.specs.Matching.{maskOf}
 use Rattle.merge.specs.Fronts.{skipTo, FrontHas, FrontIs}

@@ -6,12 +6,12 @@ use mathlib.Core.List.{List, [], _∷_, append-nil}
 use lib.ListN.{length, getD, take, set, replicate}
 use lib.Seq.{getD-set-same, getD-set-other}
 use Rattle.common.proofs.Cases.{split, same-or}
-use Rattle.offsets.specs.Cut.{cut}
-use Rattle.offsets.proofs.Cuts.{startOf, length-cut}
-use Rattle.leaf.specs.Leaf.{Term, WellFormed, encodeLeaf}
-use Rattle.leaf.proofs.Rest.{RestIs, leaf-rest}
+use Rattle.offsets.specs.Cut.{cut, startOf}
+use Rattle.offsets.proofs.Cuts.{length-cut}
+use Rattle.leaf.specs.Leaf.{Term, encodeLeaf, LeafIs, AreLeaves}
+use Rattle.leaf.specs.Rest.{RestIs}
+use Rattle.leaf.proofs.Rest.{leaf-rest}
 use Rattle.lexer.specs.Token.{Node}
-use Rattle.merge.specs.Opening.{AreLeaves}
 use Rattle.merge.specs.Fronts.{wordOf, skipTo, FrontIs, frontAt, noFront, Placed, FrontsAre, allSkipped}
 use Rattle.merge.specs.declared.Front.{Front}
 
@@ -24,7 +24,7 @@ are-count columns (b ∷ bs) [] h = absurd h
 are-count columns (b ∷ bs) (ts ∷ leaves) h = ap suc (are-count columns bs leaves (h .1))
 
 are-leaf : (columns : ℕ) (bs : List (List ℕ)) (leaves : List (List Term)) → AreLeaves columns bs leaves → (j : ℕ) → j < length bs
-    → WellFormed columns (getD leaves j []) × (getD bs j [] ≡ encodeLeaf (getD leaves j []))
+    → LeafIs columns (getD bs j []) (getD leaves j [])
 are-leaf columns [] [] h j l = absurd (omega arith)
 are-leaf columns [] (ts ∷ leaves) h j l = absurd h
 are-leaf columns (b ∷ bs) [] h j l = absurd h
@@ -63,7 +63,7 @@ starting-more {nodes} {columns} {bytes} {ends} {terms} {fronts} j none other e z
     let w : wordOf none ≡ [] = ap (λ (n : ℕ). take n (none .word)) z in
     let r : RestIs columns leaf (none .next) (wordOf none) ts [] =
     subst (λ (n : ℕ). RestIs columns leaf n (wordOf none) ts []) (sym e)
-    (subst (λ (b : List ℕ). RestIs columns leaf 1 b ts []) (sym w) (leaf-rest columns leaf ts [] (k .0) (k .1 ∙ sym (append-nil (encodeLeaf ts))))) in
+    (subst (λ (b : List ℕ). RestIs columns leaf 1 b ts []) (sym w) (leaf-rest columns leaf ts [] (k .good) (k .bytes ∙ sym (append-nil (encodeLeaf ts))))) in
     let here : FrontIs nodes columns leaf (startOf ends j) (frontAt (set fronts j other) j) (getD (allSkipped nodes terms) j []) =
     subst (λ (f : Front). FrontIs nodes columns leaf (startOf ends j) f (getD (allSkipped nodes terms) j [])) (sym (getD-set-same fronts j other noFront hj))
     (subst (FrontIs nodes columns leaf (startOf ends j) other) (sym (skipped-at nodes terms j)) (seeks ts r)) in

@@ -15,11 +15,11 @@ use borrow.Author.Tests.{eq-eqb, ne-eqb}
 use Rattle.common.specs.Bytes.{same}
 use Rattle.common.proofs.Cases.{split, same-or, bool-case, false-not-true}
 use Rattle.common.proofs.Lists.{same-true, same-refl}
-use Rattle.offsets.specs.Cut.{Cuts, cut}
-use Rattle.offsets.proofs.Cuts.{startOf, part-here, part-start, part-end, part-length}
+use Rattle.offsets.specs.Cut.{Cuts, cut, startOf}
+use Rattle.offsets.proofs.Cuts.{part-here, part-start, part-end, part-length}
 use Rattle.doclist.specs.Doclist.{Entry}
 use Rattle.leaf.specs.Leaf.{Term}
-use Rattle.leaf.proofs.Rest.{RestIs}
+use Rattle.leaf.specs.Rest.{RestIs}
 use Rattle.lexer.specs.Token.{Node}
 use Rattle.cursors.specs.Arrays.{ListAt, Cursor, groupCursors, noCursor, CursorAt, Hold}
 use Rattle.cursors.proofs.Bodies.{last-inside}

@@ -9,10 +9,9 @@ use lib.Dec.{ltb, eqb}
 use Rattle.common.specs.Pick.{pick}
 use Rattle.common.specs.Bytes.{same}
 use Rattle.doclist.specs.Doclist.{Entry}
-use Rattle.offsets.specs.Cut.{Cuts, cut}
-use Rattle.offsets.proofs.Cuts.{startOf}
+use Rattle.offsets.specs.Cut.{Cuts, cut, startOf}
 use Rattle.leaf.specs.Leaf.{Term, Before, GoodTerm, maxWord}
-use Rattle.leaf.proofs.Rest.{RestIs}
+use Rattle.leaf.specs.Rest.{RestIs}
 use Rattle.lexer.specs.Token.{Node}
 use Rattle.cursors.specs.Arrays.{ListAt, maxLeaves, Cursor, groupCursors, Hold}
 use Rattle.merge.specs.Matching.{matchesOf, maskOf}

@@ -8,7 +8,7 @@ use Rattle.common.specs.Pick.{pick}
 use Rattle.common.specs.Bytes.{same}
 use Rattle.offsets.specs.Cut.{Cuts, cut}
 use Rattle.doclist.specs.Doclist.{Entry, encodeList}
-use Rattle.leaf.specs.Leaf.{Term, WellFormed, encodeLeaf}
+use Rattle.leaf.specs.Leaf.{Term, AreLeaves}
 use Rattle.lexer.specs.Token.{Node}
 use Rattle.row.specs.Frame.{KeptFrom}
 use Rattle.cursors.specs.Groups.{Group}
@@ -16,13 +16,6 @@ use Rattle.cursors.specs.Arrays.{maxLeaves, CursorsAre}
 use Rattle.merge.specs.Matching.{maskOf}
 
 -- ---- the leaves
-
--- each of these byte strings is the leaf with these terms
-abbrev pub AreLeaves : ℕ → List (List ℕ) → List (List Term) → Type 0
-AreLeaves columns [] [] = Unit {0}
-AreLeaves columns [] (ts ∷ leaves) = ⊥
-AreLeaves columns (b ∷ bytes) [] = ⊥
-AreLeaves columns (b ∷ bytes) (ts ∷ leaves) = (WellFormed columns ts × (b ≡ encodeLeaf ts)) × AreLeaves columns bytes leaves
 
 -- document 01's bound on the number of leaves
 abbrev pub mostLeaves : ℕ

@@ -12,16 +12,15 @@ ghost use lib.ListN.{length, drop, set};
 ghost use lib.Seq.{paste};
 ghost use lib.Dec.{ltb};
 ghost use Rattle.common.specs.Pick.{pick};
-ghost use Rattle.offsets.specs.Cut.{Cuts, cut};
-ghost use Rattle.offsets.proofs.Cuts.{startOf};
+ghost use Rattle.offsets.specs.Cut.{Cuts, cut, startOf};
 ghost use Rattle.doclist.specs.Doclist.{Entry, WellFormed, encodeList};
-ghost use Rattle.leaf.specs.Leaf.{Term};
-ghost use Rattle.leaf.proofs.Rest.{RestIs};
+ghost use Rattle.leaf.specs.Leaf.{Term, AreLeaves};
+ghost use Rattle.leaf.specs.Rest.{RestIs};
 ghost use Rattle.lexer.specs.Token.{Node};
 ghost use Rattle.cursors.specs.Arrays.{Cursor, Hold, maxLeaves};
 ghost use Rattle.merge.specs.Matching.{beginsWith, matchesOf, maskOf, NodeAt, WordsAre};
 ghost use Rattle.merge.specs.Fronts.{wordOf, skipTo, FrontHas, FrontIs, beforeOf, isEarlier, hasWord, frontAt, Placed, LeastIs, headLists, FrontsAre, Able, WordTaken, allSkipped};
-ghost use Rattle.merge.specs.Opening.{mostLeaves, AreLeaves, LeavesAre, wordSize, Opened, Mergeable, NotOpened, OpenFrame};
+ghost use Rattle.merge.specs.Opening.{mostLeaves, LeavesAre, wordSize, Opened, Mergeable, NotOpened, OpenFrame};
 
 // A query has at most 16 words.
 const MAX_WORDS: usize = 16;

@@ -11,9 +11,9 @@ use lib.ListN.{length, getD, drop, drop-of-length-le, List·getD-eq-default}
 use lib.Seq.{drop-cons}
 use borrow.Author.Tests.{le-leb, lt-leb}
 use Rattle.common.specs.Bytes.{part}
-use Rattle.offsets.specs.Cut.{endsFrom, cuts, Cuts, cut}
+use Rattle.offsets.specs.Cut.{endsFrom, cuts, Cuts, cut, startOf}
 use Rattle.offsets.proofs.General.{part-none, part-least, told}
-use Rattle.offsets.proofs.Cuts.{cuts-law, past-cut, part-at, startOf, start-later}
+use Rattle.offsets.proofs.Cuts.{cuts-law, past-cut, part-at, start-later}
 
 -- ---- is_cut
 

@@ -14,19 +14,10 @@ use borrow.Author.Tests.{le-leb, leb-true, eqb-true, eq-eqb}
 use Rattle.common.specs.Pick.{both}
 use Rattle.common.specs.Bytes.{part}
 use Rattle.common.proofs.Cases.{both-left, both-right, both-true}
-use Rattle.offsets.specs.Cut.{endsFrom, cuts, Cuts, cutFrom, cut}
+use Rattle.offsets.specs.Cut.{endsFrom, cuts, Cuts, cutFrom, cut, startFrom, startOf}
 use Rattle.offsets.proofs.General.{length-part, part-stands}
 
 -- ---- where a part starts
-
--- the start of part number `i`, of those from the place `a` on: the end before it
-abbrev pub startFrom : ℕ → List ℕ → ℕ → ℕ
-startFrom a es zero = a
-startFrom a es (suc i) = getD es i 0
-
--- the start of part number `i`; at the number of the parts, the end of the last
-abbrev pub startOf : List ℕ → ℕ → ℕ
-startOf es i = startFrom 0 es i
 
 start-cons : (e : ℕ) (es : List ℕ) (i : ℕ) → startFrom e es i ≡ getD (e ∷ es) i 0
 start-cons e es zero = refl

@@ -1,6 +1,6 @@
 -- Several byte strings lent as one (document 01, "How things are lent"): a byte slice cut by a list of 32-bit ends. The
 -- ends never fall, none passes the slice's length, and the last equals it; an empty list goes only with an empty slice.
-use Prim.Native.Nat.{ℕ, _+_, _-_, _≤_, _<_}
+use Prim.Native.Nat.{ℕ, zero, suc, _+_, _-_, _≤_, _<_}
 use mathlib.Core.Path.{_≡_}
 use mathlib.Core.Bool.{Bool}
 use mathlib.Core.List.{List, [], _∷_}
@@ -37,3 +37,14 @@ cutFrom a s (e ∷ es) = part s a e ∷ cutFrom e s es
 -- the byte strings: one for each end, from the end before it (0 for the first) up to it
 abbrev pub cut : List ℕ → List ℕ → List (List ℕ)
 cut s es = cutFrom 0 s es
+
+-- ---- where a part starts
+
+-- the start of part number `i`, of those from the place `a` on: the end before it
+abbrev pub startFrom : ℕ → List ℕ → ℕ → ℕ
+startFrom a es zero = a
+startFrom a es (suc i) = getD es i 0
+
+-- the start of part number `i`; at the number of the parts, the end of the last
+abbrev pub startOf : List ℕ → ℕ → ℕ
+startOf es i = startFrom 0 es i

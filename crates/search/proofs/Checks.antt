@@ -10,34 +10,32 @@ use lib.ListN.{length, getD, take, length-take, length-drop}
 use lib.Seq.{take-suc}
 use Rattle.common.proofs.Cases.{false-not-true, split}
 use Rattle.common.specs.Bytes.{part}
-use Rattle.offsets.specs.Cut.{cut}
-use Rattle.offsets.proofs.Cuts.{startOf, length-cut, part-at}
+use Rattle.offsets.specs.Cut.{cut, startOf}
+use Rattle.offsets.proofs.Cuts.{length-cut, part-at}
 use Rattle.offsets.proofs.CutSteps.{no-part}
-use Rattle.leaf.specs.Leaf.{Term, WellFormed, encodeLeaf}
+use Rattle.leaf.specs.Leaf.{Term, LeafIs, IsLeaf, AreLeaves}
 use Rattle.leaf.specs.Answers.{CheckShape}
 use Rattle.leaf.specs.declared.LeafCheck.{LeafCheck}
 use Rattle.leaf.specs.declared.LeafCheck.the-variants.{Accepted, Shape, Broken}
-use Rattle.merge.specs.Opening.{AreLeaves}
-use Rattle.search.specs.Search.{LeafIs}
 use Rattle.search.specs.Checking.{SoundLeaves}
 
 -- ---- one leaf
 
 -- what `leaf::check` promises
 abbrev pub Checked : ℕ → List ℕ → LeafCheck → Type 0
-Checked count s r = (r ≡ Accepted) ↔ (CheckShape count s × ((ts : List Term) × WellFormed count ts × (s ≡ encodeLeaf ts)))
+Checked count s r = (r ≡ Accepted) ↔ (CheckShape count s × IsLeaf count s)
 
 module _ (count : ℕ) (s : List ℕ) (r : LeafCheck) (k : Checked count s r) (shape : CheckShape count s) where
-  pub accepted-leaf : r ≡ Accepted → (true ≡ true) ↔ ((terms : List Term) × LeafIs count s terms)
-  accepted-leaf e = (λ t. let w = k .0 e in (w .1 .0, (w .1 .1, w .1 .2)), λ t. refl)
+  pub accepted-leaf : r ≡ Accepted → (true ≡ true) ↔ IsLeaf count s
+  accepted-leaf e = (λ t. k .0 e .1, λ t. refl)
 
-  not-accepted : (r ≡ Accepted → ⊥) → (false ≡ true) ↔ ((terms : List Term) × LeafIs count s terms)
-  not-accepted n = (false-not-true, λ t. absurd (n (k .1 (shape, (t .0, t .1 .0, t .1 .1)))))
+  not-accepted : (r ≡ Accepted → ⊥) → (false ≡ true) ↔ IsLeaf count s
+  not-accepted n = (false-not-true, λ t. absurd (n (k .1 (shape, t))))
 
-  pub shape-leaf : r ≡ Shape → (false ≡ true) ↔ ((terms : List Term) × LeafIs count s terms)
+  pub shape-leaf : r ≡ Shape → (false ≡ true) ↔ IsLeaf count s
   shape-leaf e = not-accepted (λ f. let z : _≡_ {A = ℕ} 0 1 = cc in absurd (omega arith))
 
-  pub broken-leaf : r ≡ Broken → (false ≡ true) ↔ ((terms : List Term) × LeafIs count s terms)
+  pub broken-leaf : r ≡ Broken → (false ≡ true) ↔ IsLeaf count s
   broken-leaf e = not-accepted (λ f. let z : _≡_ {A = ℕ} 0 1 = cc in absurd (omega arith))
 
 -- ---- parts of the bytes
@@ -67,7 +65,7 @@ module _ (count : ℕ) where
 
   module _ (s es : List ℕ) (i : ℕ) (ts : List (List Term)) (sound : AreLeaves count (take i (cut s es)) ts) where
     -- a leaf that is not the last was refused
-    pub stopped : (p : List ℕ) (r : Bool) → i < length es → p ≡ getD (cut s es) i [] → (r ≡ true) ↔ ((terms : List Term) × LeafIs count p terms) → r ≡ false → SoundLeaves count (cut s es) i
+    pub stopped : (p : List ℕ) (r : Bool) → i < length es → p ≡ getD (cut s es) i [] → (r ≡ true) ↔ IsLeaf count p → r ≡ false → SoundLeaves count (cut s es) i
     stopped p r h e k f =
         record {
           index = ts;
@@ -77,7 +75,7 @@ module _ (count : ℕ) where
         }
 
     -- one was accepted
-    pub went-on : (p : List ℕ) (r : Bool) → i < length es → p ≡ getD (cut s es) i [] → (r ≡ true) ↔ ((terms : List Term) × LeafIs count p terms) → r ≡ true
+    pub went-on : (p : List ℕ) (r : Bool) → i < length es → p ≡ getD (cut s es) i [] → (r ≡ true) ↔ IsLeaf count p → r ≡ true
         → (more : List (List Term)) × AreLeaves count (take (i + 1) (cut s es)) more
     went-on p r h e k f =
         let l = length-cut s es in

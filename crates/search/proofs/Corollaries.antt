@@ -14,7 +14,7 @@ use Rattle.common.proofs.Cases.{bool-case, false-not-true}
 use Rattle.common.proofs.Lists.{same-true, same-refl}
 use Rattle.offsets.proofs.Cuts.{length-cut}
 use Rattle.doclist.specs.Doclist.{Rising, docidLimit}
-use Rattle.leaf.specs.Leaf.{Term}
+use Rattle.leaf.specs.Leaf.{Term, NoLeaf, AreLeaves}
 use Rattle.lexer.specs.Token.{QueryWord}
 use Rattle.query.specs.Tree.{Tree, NOT, leaf, joined}
 use Rattle.query.proofs.Bounds as bounds
@@ -23,7 +23,7 @@ use Rattle.meaning.specs.Index.{live}
 use Rattle.meaning.specs.Listing.{Answers, shown, roomWith, zeros}
 use Rattle.meaning.proofs.Lists.{lists-unique, rising-low}
 use Rattle.meaning.proofs.Some.{Worded, WordedTree, holds-some}
-use Rattle.search.specs.Search.{Numbers, numbers, numbersOf, Input, leafBytes, ShapeRight, IsQuery, IsLeaf, AreLeaves, Refusal, leafRefusals, roomRefusal, refusals, FirstDue, roomFor, Searched}
+use Rattle.search.specs.Search.{Numbers, numbers, numbersOf, Input, columnCount, leafBytes, ShapeRight, IsQuery, Refusal, leafRefusals, roomRefusal, refusals, FirstDue, roomFor, Searched}
 use Rattle.search.specs.declared.Answer.{Answer}
 use Rattle.search.specs.declared.Answer.the-variants as answer
 use Rattle.search.proofs.Order.{numbers-once}
@@ -36,7 +36,7 @@ passed f fs accepted m n d = ⊎-elim (λ h. absurd (n (h .0))) (λ h. h .1) d
 
 -- the leaf `i` breaks a rule
 abbrev pub Breaks : Input → List (List ℕ) → ℕ → Type 0
-Breaks x bs i = (terms : List Term) → IsLeaf x (getD bs i []) terms → ⊥
+Breaks x bs i = NoLeaf (columnCount x) (getD bs i [])
 
 -- what is known of an answer that the leaves of number `k` on decide: it names the first of them that breaks a rule
 pub record FirstBroken (x : Input) (bs : List (List ℕ)) (k i : ℕ) (r : Answer) : Type 0 where
@@ -47,12 +47,12 @@ pub record FirstBroken (x : Input) (bs : List (List ℕ)) (k i : ℕ) (r : Answe
   pub others-keep : (j : ℕ) → j < first → Breaks x bs j → ⊥
 
 module _ (x : Input) (r : Answer) where
-  broken-here : (k i : ℕ) (b : List ℕ) (bs : List (List ℕ)) → ((terms : List Term) → IsLeaf x b terms → ⊥) → numbersOf r ≡ numbers 3 k → FirstBroken x (b ∷ bs) k i r
+  broken-here : (k i : ℕ) (b : List ℕ) (bs : List (List ℕ)) → NoLeaf (columnCount x) b → numbersOf r ≡ numbers 3 k → FirstBroken x (b ∷ bs) k i r
   broken-here k i b bs n a =
       let e : k ≡ k + 0 = omega arith in
       record { first = 0; answers = numbers-once r (answer.Leaf k) a ∙ ap answer.Leaf e; not-later = omega arith; breaks = n; others-keep = λ j m. absurd (not-suc-le-zero m) }
 
-  broken-later : (k i : ℕ) (b : List ℕ) (bs : List (List ℕ)) → (((terms : List Term) → IsLeaf x b terms → ⊥) → ⊥) → FirstBroken x bs (suc k) i r → FirstBroken x (b ∷ bs) k (suc i) r
+  broken-later : (k i : ℕ) (b : List ℕ) (bs : List (List ℕ)) → (NoLeaf (columnCount x) b → ⊥) → FirstBroken x bs (suc k) i r → FirstBroken x (b ∷ bs) k (suc i) r
   broken-later k i b bs n f =
       let e : suc k + f .first ≡ k + suc (f .first) = omega arith in
       record {
@@ -74,7 +74,7 @@ module _ (x : Input) (r : Answer) where
       ⊎-elim (λ h. broken-here k (suc i) c bs (h .0) (h .1)) (λ h. broken-later k i c bs (h .0) (first-of fs accepted (suc k) i bs (le-of-suc-le-suc l) b (h .1))) d
 
 -- leaves that all keep the rules are refused by none
-all-keep : (x : Input) (fs : List Refusal) (accepted m : Numbers) (k : ℕ) (bs : List (List ℕ)) (index : List (List Term)) → AreLeaves x bs index → FirstDue (leafRefusals x k bs ++ fs) accepted m → FirstDue fs accepted m
+all-keep : (x : Input) (fs : List Refusal) (accepted m : Numbers) (k : ℕ) (bs : List (List ℕ)) (index : List (List Term)) → AreLeaves (columnCount x) bs index → FirstDue (leafRefusals x k bs ++ fs) accepted m → FirstDue fs accepted m
 all-keep x fs accepted m k [] index h d = d
 all-keep x fs accepted m k (b ∷ bs) [] h d = absurd h
 all-keep x fs accepted m k (b ∷ bs) (t ∷ ts) h d = ⊎-elim (λ e. absurd (e .0 t (h .0))) (λ e. all-keep x fs accepted m (suc k) bs ts (h .1) (e .1)) d
@@ -140,7 +140,7 @@ abbrev SomeQuery : Input → Type 0
 SomeQuery x = (tree : Tree) × IsQuery x tree
 
 abbrev SomeLeaves : Input → List (List ℕ) → Type 0
-SomeLeaves x bs = (index : List (List Term)) × AreLeaves x bs index
+SomeLeaves x bs = (index : List (List Term)) × AreLeaves (columnCount x) bs index
 
 module _ (x : Input) (n : ℕ) (r q : Answer) (ds es : List ℕ) where
   -- the same answer, and the same in the room
@@ -218,7 +218,7 @@ answer-unique x n r q room left s t =
 
 module _ (x : Input) (n : ℕ) (r : Answer) (room : List ℤ) (s : Searched x n r room) where
   -- its shape is right, the query is this tree, and the leaves have these terms, newest first
-  module _ (tree : Tree) (index : List (List Term)) (shape : ShapeRight x) (query : IsQuery x tree) (leaves : AreLeaves x (leafBytes x) index) where
+  module _ (tree : Tree) (index : List (List Term)) (shape : ShapeRight x) (query : IsQuery x tree) (leaves : AreLeaves (columnCount x) (leafBytes x) index) where
     list : Answers index tree (s .docids)
     list = s .listed tree index shape query leaves
 
@@ -266,7 +266,7 @@ module _ (x : Input) (n : ℕ) (r : Answer) (room : List ℤ) (s : Searched x n 
   pub no-leaves : (tree : Tree) → ShapeRight x → IsQuery x tree → length (x .leaf-ends) ≡ 0 → (s .docids ≡ []) × (r ≡ answer.Found 0) × (room ≡ zeros n)
   no-leaves tree shape query z =
       let b : leafBytes x ≡ [] = no-parts (leafBytes x) (length-cut (x .leaves) (x .leaf-ends) ∙ z) in
-      let l : AreLeaves x (leafBytes x) [] = subst (λ bs. AreLeaves x bs []) (sym b) tt in
+      let l : AreLeaves (columnCount x) (leafBytes x) [] = subst (λ bs. AreLeaves (columnCount x) bs []) (sym b) tt in
       let list = s .listed tree [] shape query l in
       let e : s .docids ≡ [] =
       no-member (s .docids) (λ d m.
@@ -292,6 +292,6 @@ module _ (x : Input) (n : ℕ) (r : Answer) (room : List ℤ) (s : Searched x n 
       (f, s .left ∙ ap (roomFor n (s .docids)) (f .answers))
 
   -- a row that satisfies the right side of a NOT is not in the list
-  pub not-right-side : (left right : Tree) (index : List (List Term)) → ShapeRight x → IsQuery x (joined NOT left right) → AreLeaves x (leafBytes x) index
+  pub not-right-side : (left right : Tree) (index : List (List Term)) → ShapeRight x → IsQuery x (joined NOT left right) → AreLeaves (columnCount x) (leafBytes x) index
       → (d : ℕ) → d < docidLimit → Satisfies (live index) d right → List·Memᴰ d (s .docids) → ⊥
   not-right-side left right index shape query leaves d h t m = listed-satisfies (joined NOT left right) index shape query leaves d h .0 m .1 t

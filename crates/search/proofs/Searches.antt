@@ -10,7 +10,7 @@ use lib.ListN.{length}
 use lib.Seq.{take-all}
 use Rattle.common.proofs.Cases.{false-not-true}
 use Rattle.offsets.proofs.Cuts.{length-cut}
-use Rattle.leaf.specs.Leaf.{Term}
+use Rattle.leaf.specs.Leaf.{Term, AreLeaves}
 use Rattle.query.specs.Tree.{Link, Tree, leaf, joined}
 use Rattle.query.specs.declared.Reading.{Reading}
 use Rattle.query.specs.Reading.{Compiles}
@@ -21,7 +21,7 @@ use Rattle.chain.specs.Chains.{FilledLinks}
 use Rattle.evaluate.specs.Evaluate.{FilledTree}
 use Rattle.engine.specs.Run.{Ran}
 use Rattle.engine.proofs.Rooms.{fitted-all, length-fitted}
-use Rattle.search.specs.Search.{numbers, numbersOf, Input, columnNames, leafBytes, ShapeRight, IsQuery, AreLeaves, leafRefusals, roomRefusal, FirstDue, refusals, roomFor, Searched}
+use Rattle.search.specs.Search.{numbers, numbersOf, Input, columnNames, columnCount, leafBytes, ShapeRight, IsQuery, leafRefusals, roomRefusal, FirstDue, refusals, roomFor, Searched}
 use Rattle.search.specs.Checking.{SoundLeaves}
 use Rattle.search.specs.declared.Answer.{Answer}
 use Rattle.search.specs.declared.Answer.the-variants as answer
@@ -87,12 +87,12 @@ module _ (x : Input) (n : ℕ) (r : Answer) (room : List ℤ) (good : Bool) (tol
 
       -- all leaves are sound, and the engine ran
       module _ (all : length (x .leaf-ends) ≤ i) (found : ℕ) (before : List ℤ) (run : Ran (reading .query) (x .leaves) (x .leaf-ends) n found before) where
-        leaves : AreLeaves x (leafBytes x) (checked .index)
+        leaves : AreLeaves (columnCount x) (leafBytes x) (checked .index)
         leaves =
             let l = length-cut (x .leaves) (x .leaf-ends) in
-            subst (λ bs. AreLeaves x bs (checked .index)) (take-all i (leafBytes x) (omega arith)) (checked .sound)
+            subst (λ bs. AreLeaves (columnCount x) bs (checked .index)) (take-all i (leafBytes x) (omega arith)) (checked .sound)
 
-        every : (tree : Tree) (index : List (List Term)) → ShapeRight x → IsQuery x tree → AreLeaves x (leafBytes x) index → Answers index tree (run .docids)
+        every : (tree : Tree) (index : List (List Term)) → ShapeRight x → IsQuery x tree → AreLeaves (columnCount x) (leafBytes x) index → Answers index tree (run .docids)
         every tree index s q l =
             run .listed (length (x .name-ends)) tree index
             (record { fit = record { filled = tree-filled tree (reads-worded q); few = reads-words q }; same = ap (λ (m : Reading). m .query) (compiles .content tree q) })

@@ -2,13 +2,11 @@
 use Prim.Native.Nat.{ℕ, _≤_, _<_}
 use mathlib.Core.List.{List, []}
 use lib.ListN.{length, getD, take}
-use Rattle.leaf.specs.Leaf.{Term}
-use Rattle.merge.specs.Opening.{AreLeaves}
-use Rattle.search.specs.Search.{LeafIs}
+use Rattle.leaf.specs.Leaf.{Term, NoLeaf, AreLeaves}
 
 -- the first `r` of these leaves keep every rule, and the next, if there is one, does not
 pub record SoundLeaves (count : ℕ) (leaves : List (List ℕ)) (r : ℕ) : Type 0 where
   pub index : List (List Term)
   pub sound : AreLeaves count (take r leaves) index
   pub inside : r ≤ length leaves
-  pub broken : r < length leaves → (terms : List Term) → LeafIs count (getD leaves r []) terms → ⊥
+  pub broken : r < length leaves → NoLeaf count (getD leaves r [])

@@ -9,11 +9,10 @@ use lib.IntN.{ℤ}
 use lib.ListN.{length}
 use Rattle.offsets.specs.Cut.{Cuts, cut}
 use Rattle.offsets.specs.Names.{Names}
-use Rattle.leaf.specs.Leaf.{Term, WellFormed, encodeLeaf}
+use Rattle.leaf.specs.Leaf.{Term, NoLeaf, AreLeaves}
 use Rattle.query.specs.Tree.{Tree}
 use Rattle.query.specs.Grammar.{Reads}
 use Rattle.meaning.specs.Listing.{Answers, roomWith, zeros}
-use Rattle.merge.specs.Opening as merge
 use Rattle.search.specs.declared.Answer.{Answer}
 use Rattle.search.specs.declared.Answer.the-variants as answer
 
@@ -57,6 +56,9 @@ pub record Input : Type 0 where
 abbrev pub columnNames : Input → List (List ℕ)
 columnNames x = cut (x .names) (x .name-ends)
 
+abbrev pub columnCount : Input → ℕ
+columnCount x = length (x .name-ends)
+
 -- the leaves, newest first
 abbrev pub leafBytes : Input → List (List ℕ)
 leafBytes x = cut (x .leaves) (x .leaf-ends)
@@ -79,17 +81,6 @@ pub record ShapeRight (x : Input) : Type 0 where
 abbrev pub IsQuery : Input → Tree → Type 0
 IsQuery x tree = Reads (columnNames x) (x .query) tree
 
--- a leaf of a table with `count` columns keeps every rule, and has these terms
-abbrev pub LeafIs : ℕ → List ℕ → List Term → Type 0
-LeafIs count bytes terms = WellFormed count terms × (bytes ≡ encodeLeaf terms)
-
-abbrev pub IsLeaf : Input → List ℕ → List Term → Type 0
-IsLeaf x bytes terms = LeafIs (length (x .name-ends)) bytes terms
-
--- all leaves do, one after the other
-abbrev pub AreLeaves : Input → List (List ℕ) → List (List Term) → Type 0
-AreLeaves x bytes leaves = merge.AreLeaves (length (x .name-ends)) bytes leaves
-
 -- ---- the refusals in their order
 
 -- when a refusal is due, and the numbers that are given then
@@ -100,7 +91,7 @@ pub record Refusal : Type 1 where
 -- "the first such leaf, counted from 0, newest first"
 abbrev pub leafRefusals : Input → ℕ → List (List ℕ) → List Refusal
 leafRefusals x i [] = []
-leafRefusals x i (b ∷ bs) = record { due = (terms : List Term) → IsLeaf x b terms → ⊥; given = numbers 3 i } ∷ leafRefusals x (suc i) bs
+leafRefusals x i (b ∷ bs) = record { due = NoLeaf (columnCount x) b; given = numbers 3 i } ∷ leafRefusals x (suc i) bs
 
 -- "Number 4 is given exactly when the need is greater than the room's length."
 abbrev pub roomRefusal : ℕ → ℕ → Refusal
@@ -132,6 +123,6 @@ roomFor n docids (answer.Room k) = zeros n
 pub record Searched (x : Input) (n : ℕ) (r : Answer) (room : List ℤ) : Type 0 where
   -- the list: of all docids that satisfy the query, whenever it is one and the leaves are leaves
   pub docids : List ℕ
-  pub listed : (tree : Tree) (leaves : List (List Term)) → ShapeRight x → IsQuery x tree → AreLeaves x (leafBytes x) leaves → Answers leaves tree docids
+  pub listed : (tree : Tree) (leaves : List (List Term)) → ShapeRight x → IsQuery x tree → AreLeaves (columnCount x) (leafBytes x) leaves → Answers leaves tree docids
   pub answered : FirstDue (refusals x n (length docids)) (numbers 0 (length docids)) (numbersOf r)
   pub left : room ≡ roomFor n docids r

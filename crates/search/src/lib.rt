@@ -8,9 +8,9 @@ ghost use Prim.Native.Nat.{ℕ, _≤_};
 ghost use lib.ListN.{length};
 ghost use Rattle.offsets.specs.Cut.{cut};
 ghost use Rattle.offsets.specs.Names.{maxColumns};
-ghost use Rattle.leaf.specs.Leaf.{Term};
+ghost use Rattle.leaf.specs.Leaf.{IsLeaf};
 ghost use Rattle.meaning.specs.Listing.{zeros};
-ghost use Rattle.search.specs.Search.{maxBytes, ShapeRight, LeafIs, Searched};
+ghost use Rattle.search.specs.Search.{maxBytes, ShapeRight, Searched};
 ghost use Rattle.search.specs.Checking.{SoundLeaves};
 
 // An index has at most 8 leaves.
@@ -49,7 +49,7 @@ fn has_shape(names: &[u8], name_ends: &[u32], leaves: &[u8], leaf_ends: &[u32]) 
 // Whether a leaf keeps every rule.
 fn is_leaf(leaf: &[u8], columns: u32) -> bool
     requires { ⌜ (1 ≤ columns) × (columns ≤ maxColumns) × (length (now leaf) ≤ maxBytes) ⌝ }
-    ensures { λ r. ⌜ ((r ≡ true) ↔ ((terms : List Term) × LeafIs columns (now (leaf .entry)) terms)) ⌝ }
+    ensures { λ r. ⌜ ((r ≡ true) ↔ IsLeaf columns (now (leaf .entry))) ⌝ }
 {
     match leaf::check(leaf, columns) {
         LeafCheck::Accepted => true,

@@ -23,6 +23,7 @@ use Rattle.tokenizer.proofs.Word.{the-type}
 use Rattle.tokenizer.proofs.Laws.{placed-some, placed-none, start-end, places-none, found-bounds, found-first, overlong-bounds, overlong-first, overlong-long, nothing-first}
 use Rattle.tokenizer.proofs.Folds.{word-length}
 use Rattle.offsets.specs.Cut.{Cuts, cut}
+use Rattle.offsets.specs.Cut as offsets
 use Rattle.offsets.proofs.Cuts as cuts
 use Rattle.document.proofs.General.{at-member}
 use Rattle.writer.specs.Answers.{hasOverlong}
@@ -199,7 +200,7 @@ place-rows-length base column position (p ∷ ps) = ap suc (place-rows-length ba
 
 -- the columns before number `i`, whose texts end at `base`, are gathered: `n` rows
 pub record Gathering (s es folded before rows : List ℕ) (n base i : ℕ) : Type 0 where
-  pub starts : base ≡ cuts.startOf es i
+  pub starts : base ≡ offsets.startOf es i
   pub ends : base ≤ length s
   pub passed : n ≤ base
   pub same : length rows ≡ length before

@@ -4,8 +4,8 @@ use mathlib.Core.Path.{ap, subst}
 use mathlib.Core.List.{List}
 use lib.ListN.{length}
 use borrow.Author.Needs.{needs}
-use Rattle.leaf.specs.Leaf.{Term, ListIs}
-use Rattle.lookup.specs.Words.{LeafIs, Tells}
+use Rattle.leaf.specs.Leaf.{Term, LeafIs, ListIs}
+use Rattle.lookup.specs.Words.{Tells}
 use Rattle.lookup.proofs.EntryLaws.{told-none, no-list-no-entry, list-entry, list-entry-most, list-no-entry}
 use Rattle.lookup.proofs.entry_in.Statement.{statement}
 use Rattle.lookup.proofs.entry_in.Tie as tie

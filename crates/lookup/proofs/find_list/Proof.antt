@@ -1,7 +1,7 @@
 -- `find_list` meets its contract: each way out is an answer whose claim holds.
 use native.Mathlib.Omega.{arith}
 use borrow.Author.Needs.{needs}
-use Rattle.lookup.specs.Words.{WordShape, LookupShape, LeafIs}
+use Rattle.lookup.specs.Words.{WordShape, LookupShape}
 use Rattle.lookup.proofs.WordLaws.{word-exact, tells-is}
 use Rattle.lookup.proofs.find_list.Statement.{statement}
 use Rattle.lookup.proofs.find_list.Tie as tie
@@ -37,8 +37,7 @@ returns-3 c =
     let w : WordShape (a .word .now) = record { some = omega (arith, c .before .before .before .before .before .if1 .left); short = c .before .before .before .before .if2 .left } in
     let k = c .before .before .before .check .ensures .1 .1 .0 .0 (c .before .enum-told .given .1) in
     let h : LookupShape (a .columns) (a .leaf .now) (a .word .now) = record { leaf-right = k .0; word-right = w } in
-    let l : LeafIs (a .columns) (a .leaf .now) (k .1 .0) = record { good = k .1 .1; bytes = k .1 .2 } in
-    word-exact (a .columns) (a .leaf .now) (a .word .now) (tells-is (a .columns) (a .leaf .now) (a .word .now) (k .1 .0) h l (c .seek .result) (c .seek .ensures (a .columns) (k .1 .0) l))
+    word-exact (a .columns) (a .leaf .now) (a .word .now) (tells-is (a .columns) (a .leaf .now) (a .word .now) (k .1 .0) h (k .1 .1) (c .seek .result) (c .seek .ensures (a .columns) (k .1 .0) (k .1 .1)))
 
 returns-4 : tie.Need-returns-4
 returns-4 c =
@@ -50,7 +49,7 @@ returns-5 c =
     let a = c .before .before .before .before .before .before .before .args in
     let w : WordShape (a .word .now) = record { some = omega (arith, c .before .before .before .before .if1 .left); short = c .before .before .before .if2 .left } in
     let k = c .before .before .check .ensures .1 .1 .1 .0 (c .enum-told3 .given .1) in
-    word-exact (a .columns) (a .leaf .now) (a .word .now) (record { leaf-right = k .0; word-right = w }, λ ts l. k .1 ts (l .good) (l .bytes))
+    word-exact (a .columns) (a .leaf .now) (a .word .now) (record { leaf-right = k .0; word-right = w }, k .1)
 
 pub find-list-spec : {M : Type 1} → statement M
 find-list-spec =

@@ -6,9 +6,8 @@ use mathlib.Core.Path.{sym, _∙_, subst}
 use mathlib.Core.List.{List}
 use lib.ListN.{length}
 use borrow.Author.Needs.{needs}
-use Rattle.leaf.specs.Leaf.{Term}
+use Rattle.leaf.specs.Leaf.{Term, LeafIs}
 use Rattle.leaf.proofs.Heads.{head-sound}
-use Rattle.lookup.specs.Words.{LeafIs}
 use Rattle.lookup.specs.Order.{SharedMost}
 use Rattle.lookup.proofs.Seeking.{Seeking, seeking-start, seeking-end, seeking-refused, seeking-next, seeking-behind, seeking-found}
 use Rattle.lookup.proofs.seek.Statement.{statement}

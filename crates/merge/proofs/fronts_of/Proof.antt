@@ -1,10 +1,9 @@
 -- `merge::fronts_of` meets its contract. The loop's invariant: the first `j` leaves have their fronts.
 use Rattle.lexer.specs.Token.{Node}
-use Rattle.leaf.specs.Leaf.{Term}
+use Rattle.leaf.specs.Leaf.{Term, AreLeaves}
 use lib.ListN.{length-set}
 use Rattle.offsets.specs.Cut.{Cuts, cut}
 use Rattle.merge.specs.Matching.{WordsAre}
-use Rattle.merge.specs.Opening.{AreLeaves}
 use Rattle.merge.specs.Fronts.{frontAt, Placed}
 use Rattle.merge.proofs.Taking.{leaf-inside, sought-as}
 use Rattle.merge.proofs.Starting.{Starting, starting-start, starting-more, starting-end, placed-set, placed-all}

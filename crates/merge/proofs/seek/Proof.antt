@@ -3,7 +3,7 @@
 use Rattle.lexer.specs.Token.{Node}
 use Rattle.leaf.specs.Leaf.{Term}
 use Rattle.common.specs.Bytes.{part}
-use Rattle.leaf.proofs.Rest.{RestIs}
+use Rattle.leaf.specs.Rest.{RestIs}
 use Rattle.leaf.proofs.General.{part-length}
 use Rattle.leaf.proofs.Heads.{head-sound}
 use Rattle.merge.specs.Matching.{maskOf, WordsAre}

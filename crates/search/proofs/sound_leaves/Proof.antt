@@ -6,8 +6,7 @@ use lib.ListN.{length, take}
 use borrow.Author.Tests.{not-true, not-false}
 use borrow.Author.Needs.{needs}
 use Rattle.offsets.specs.Cut.{cut}
-use Rattle.leaf.specs.Leaf.{Term}
-use Rattle.merge.specs.Opening.{AreLeaves}
+use Rattle.leaf.specs.Leaf.{Term, AreLeaves}
 use Rattle.search.proofs.Checks.{short-part, stopped, went-on, came-through}
 use Rattle.search.proofs.sound_leaves.Statement.{statement}
 use Rattle.search.proofs.sound_leaves.Tie as tie
