@@ -9,7 +9,7 @@ use mathlib.Core.List.{List, [], _∷_, _++_, append-assoc, append-nil}
 use lib.ListN.{length, take, length-drop}
 use lib.Seq.{take-length}
 use lib.Dec.{ltb, leb, eqb}
-use borrow.Author.Tests.{lt-ltb, le-ltb, eq-eqb, ltb-true, eqb-true, eqb-false, le-leb, lt-leb, leb-true}
+use borrow.Author.Tests.{lt-ltb, le-ltb, eq-eqb, ne-eqb, ltb-true, eqb-true, eqb-false, le-leb, lt-leb, leb-true}
 use Rattle.common.specs.Pick.{both}
 use Rattle.common.specs.Bytes.{within}
 use Rattle.common.proofs.Cases.{pick-case, bool-case, false-not-true, split, both-left, both-right, both-true}
@@ -18,7 +18,7 @@ use Rattle.varint.specs.declared.Varint.the-variants as varint
 use Rattle.varint.proofs.Laws.{varint-case, refused-no-value, value-same, stored-at, reads, next-within}
 use Rattle.doclist.proofs.Unique.{list-unique}
 use Rattle.leaf.specs.Leaf.{Term, WellFormed, termBytes, encodeTerms, encodeLeaf, LeafIs, IsLeaf, NoLeaf, SoundFront}
-use Rattle.leaf.specs.Reading.{firstWord, walkFrom, walkOf, isLeaf}
+use Rattle.leaf.specs.Reading.{firstWord, walkFrom, noFront, frontOf, walkOf, isLeaf}
 use Rattle.leaf.specs.Rest.{restBytes, RestIs}
 use Rattle.leaf.specs.Answers.{maxLeaves, checkNumber, CheckShape, checkLeaf}
 use Rattle.leaf.specs.declared.Sound.{Sound}
@@ -36,18 +36,18 @@ leaf-bytes (t ∷ ts) tail h = sym (append-assoc (encode 0) (restBytes firstWord
 
 module _ (count : ℕ) (s : List ℕ) (small : length s < 2 ^ 63) where
   -- the walk begins behind the height 0, or it stops at once
-  walk-case : (P : Sound → Type 0) → (readAt s 0 ≡ varint.Value 0 1 → P (walkFrom (length s) count s firstWord [] 0))
-      → ((readAt s 0 ≡ varint.Value 0 1 → ⊥) → P (stop 0 0)) → P (walkOf count s)
+  walk-case : (P : Sound → Type 0) → (readAt s 0 ≡ varint.Value 0 1 → P (frontOf (walkFrom (length s) count s firstWord [] 0)))
+      → ((readAt s 0 ≡ varint.Value 0 1 → ⊥) → P noFront) → P (walkOf count s)
   unfolding encodeIn
   walk-case P f g =
-      varint-case P (stop 0 0) (readAt s 0) _
+      varint-case P noFront (readAt s 0) _
       (λ h n e. pick-case P (eqb h 0) _ _ (λ z. zero-height h n e (eqb-true h 0 z)) (λ z. g (λ q. eqb-false h 0 z (value-same e q))))
       (λ e. g (λ q. refused-no-value 0 1 e q))
     where
-      zero-height : (h n : ℕ) → readAt s 0 ≡ varint.Value h n → h ≡ 0 → P (walkFrom (length s) count s n [] 0)
+      zero-height : (h n : ℕ) → readAt s 0 ≡ varint.Value h n → h ≡ 0 → P (frontOf (walkFrom (length s) count s n [] 0))
       zero-height h n e z =
           let q : n ≡ 1 = stored-at s 0 h n .0 e .ends ∙ ap (λ (v : ℕ). 0 + length (encode v)) z in
-          subst (λ (i : ℕ). P (walkFrom (length s) count s i [] 0)) (sym q) (f (e ∙ ap₂ varint.Value z q))
+          subst (λ (i : ℕ). P (frontOf (walkFrom (length s) count s i [] 0))) (sym q) (f (e ∙ ap₂ varint.Value z q))
 
   height-there : (ts : List Term) (rest : List ℕ) → s ≡ encodeLeaf ts ++ rest → readAt s 0 ≡ varint.Value 0 1
   unfolding encodeIn
@@ -59,11 +59,27 @@ module _ (count : ℕ) (s : List ℕ) (small : length s < 2 ^ 63) where
   passed ts tail w e = walk-passes count s small ts (length s) firstWord [] 0 tail (omega arith) (leaf-rest count s ts tail w e)
 
   pub walk-front : SoundFront count s (walkOf count s .words) (walkOf count s .end)
-  walk-front = walk-case (λ (r : Sound). SoundFront count s (r .words) (r .end)) begun none
+  walk-front =
+      walk-case Is
+      (λ e. pick-case Is (eqb (walkFrom (length s) count s firstWord [] 0 .words) 0) _ _ (λ z. none (most-words e (eqb-true _ 0 z))) (λ z. begun e (eqb-false _ 0 z)))
+      (λ n. none (λ ts rest w q. absurd (n (height-there ts rest q))))
     where
-      begun : readAt s 0 ≡ varint.Value 0 1
-          → SoundFront count s (walkFrom (length s) count s firstWord [] 0 .words) (walkFrom (length s) count s firstWord [] 0 .end)
-      begun e =
+      Is : Sound → Type 0
+      Is r = SoundFront count s (r .words) (r .end)
+
+      -- no well-formed terms are more than the walk finds
+      most-found : (ts : List Term) (rest : List ℕ) → WellFormed count ts → s ≡ encodeLeaf ts ++ rest → length ts ≤ walkFrom (length s) count s firstWord [] 0 .words
+      most-found ts rest w q =
+          let p = passed ts rest w q in
+          let g = front-sound count s (p .fuel) (p .next) (p .last) (0 + length ts) in
+          omega (arith, g .counted, ap (λ (r : Sound). r .words) (p .passes))
+
+      most-words : readAt s 0 ≡ varint.Value 0 1 → walkFrom (length s) count s firstWord [] 0 .words ≡ 0
+          → (ts : List Term) (rest : List ℕ) → WellFormed count ts → s ≡ encodeLeaf ts ++ rest → ⊥
+      most-words e z ts rest w q = let m = most-found ts rest w q in omega (arith, w .some)
+
+      begun : readAt s 0 ≡ varint.Value 0 1 → (walkFrom (length s) count s firstWord [] 0 .words ≡ 0 → ⊥) → Is (walkFrom (length s) count s firstWord [] 0)
+      begun e n =
           let st = stored-at s 0 0 1 .0 e in
           let f = front-sound count s (length s) firstWord [] 0 in
           let i = f .inside (next-within (omega arith) st) in
@@ -72,26 +88,24 @@ module _ (count : ℕ) (s : List ℕ) (small : length s < 2 ^ 63) where
             good = f .good;
             counted = omega (arith, f .counted);
             inside = i;
+            none = λ z. absurd (n z);
             bytes =
                 λ (h : 0 < walkFrom (length s) count s firstWord [] 0 .words).
                 front-here s (encodeLeaf (f .terms)) (walkFrom (length s) count s firstWord [] 0 .end) i
                 (st .bytes ∙ ap (λ (x : List ℕ). encode 0 ++ x) (f .bytes) ∙ leaf-bytes (f .terms) _ (omega (arith, f .counted)));
-            most =
-                λ ts rest w q.
-                let p = passed ts rest w q in
-                let g = front-sound count s (p .fuel) (p .next) (p .last) (0 + length ts) in
-                omega (arith, g .counted, ap (λ (r : Sound). r .words) (p .passes));
+            most = most-found;
           }
 
-      none : (readAt s 0 ≡ varint.Value 0 1 → ⊥) → SoundFront count s 0 0
+      none : ((ts : List Term) (rest : List ℕ) → WellFormed count ts → s ≡ encodeLeaf ts ++ rest → ⊥) → Is noFront
       none n =
           record {
             terms = [];
             good = tt;
             counted = refl;
             inside = omega arith;
+            none = λ _. refl;
             bytes = λ (h : 0 < 0). absurd (omega arith);
-            most = λ ts rest w e. absurd (n (height-there ts rest e));
+            most = λ ts rest w e. absurd (n ts rest w e);
           }
 
   -- an answer that is what the walk gives is the sound front
@@ -122,7 +136,7 @@ module _ (count : ℕ) (s : List ℕ) (small : length s < 2 ^ 63) where
       let z : length s ≤ p .next = omega (arith, simp length-drop at (ap length (p .behind))) in
       let q : walkOf count s ≡ stop (0 + length ts) (p .next) =
       walk-case (λ (r : Sound). r ≡ stop (0 + length ts) (p .next))
-      (λ _. p .passes ∙ walk-end count s (p .next) (p .last) (0 + length ts) (p .fuel) z)
+      (λ _. ap frontOf (p .passes ∙ walk-end count s (p .next) (p .last) (0 + length ts) (p .fuel) z) ∙ rw (ne-eqb (0 + length ts) 0 (λ k. omega (arith, w .some))) refl)
       (λ n. absurd (n (height-there ts [] d))) in
       let a : 0 < 0 + length ts = omega (arith, w .some) in
       let b : p .next ≡ length s = omega (arith, p .inside) in

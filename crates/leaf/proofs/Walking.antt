@@ -20,7 +20,7 @@ use Rattle.doclist.specs.declared.ListCheck.{ListCheck}
 use Rattle.doclist.specs.declared.ListCheck.the-variants as list-check
 use Rattle.doclist.proofs.Law.{list-law}
 use Rattle.leaf.specs.Leaf.{Term, Terms, sized}
-use Rattle.leaf.specs.Reading.{onList, firstWord, headAt, joinsOf, walkFrom, walkOf}
+use Rattle.leaf.specs.Reading.{onList, firstWord, headAt, joinsOf, walkFrom, frontOf, walkOf}
 use Rattle.leaf.specs.Rest.{prefixNumber, restBytes, RestIs}
 use Rattle.leaf.specs.declared.Head.the-variants.{Found, Refused}
 use Rattle.leaf.specs.declared.Sound.{Sound}
@@ -197,7 +197,7 @@ module _ (count : ℕ) (s : List ℕ) (small : length s < 2 ^ 63) where
 pub record Walking (count : ℕ) (s : List ℕ) (i : ℕ) (before : List ℕ) (words : ℕ) : Type 0 where
   pub fuel : ℕ
   pub enough : length s ≤ i + fuel
-  pub goes-on : walkOf count s ≡ walkFrom fuel count s i before words
+  pub goes-on : walkOf count s ≡ frontOf (walkFrom fuel count s i before words)
   pub few : words ≤ i
 
 pub walking-start : (count : ℕ) (s : List ℕ) (height first : ℕ) → readAt s 0 ≡ varint.Value height first → height ≡ 0 → Walking count s first [] 0
@@ -228,6 +228,6 @@ walking-more {count} {s} {i} len d {words} {p} {f} {n} {l} {x} w g ld h e j a q 
     record {
       fuel = m .0;
       enough = m .1;
-      goes-on = g .goes-on ∙ m .2 ∙ ap (λ (b : List ℕ). walkFrom (m .0) count s x b (words + 1)) (put-word w d (part s f (f + n)) p n len q ls pl ld);
+      goes-on = g .goes-on ∙ ap frontOf (m .2 ∙ ap (λ (b : List ℕ). walkFrom (m .0) count s x b (words + 1)) (put-word w d (part s f (f + n)) p n len q ls pl ld));
       few = omega (arith, g .few, t .after, t .inside, t .ends);
     }

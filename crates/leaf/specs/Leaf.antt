@@ -97,12 +97,13 @@ AreLeaves count (b ∷ leaves) (ts ∷ index) = LeafIs count b ts × AreLeaves c
 
 -- ---- the sound front of any bytes
 
--- the largest number of words from the start that keep all rules, and where they end; with no such word `end` says nothing
+-- the largest number of words from the start that keep all rules, and where they end: at 0 where there is no such word
 pub record SoundFront (count : ℕ) (s : List ℕ) (words end : ℕ) : Type 0 where
   pub terms : List Term
   pub good : Terms count [] terms
   pub counted : length terms ≡ words
   pub inside : end ≤ length s
+  pub none : words ≡ 0 → end ≡ 0
   pub bytes : 0 < words → take end s ≡ encodeLeaf terms
   pub most : (ts : List Term) (rest : List ℕ) → WellFormed count ts → s ≡ encodeLeaf ts ++ rest → length ts ≤ words
 

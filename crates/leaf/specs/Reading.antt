@@ -65,10 +65,16 @@ walkFrom (suc most) count s i before words =
     (record { words = words; end = i })))
     (record { words = words; end = i })
 
+-- with no sound word the front is empty
+abbrev pub noFront : Sound
+noFront = record { words = 0; end = 0 }
+
+abbrev pub frontOf : Sound → Sound
+frontOf r = pick (eqb (r .words) 0) noFront r
+
 abbrev pub walkOf : ℕ → List ℕ → Sound
 walkOf count s =
-    onVarint (record { words = 0; end = 0 }) (readAt s 0) (λ height first.
-    pick (eqb height 0) (walkFrom (length s) count s first [] 0) (record { words = 0; end = 0 }))
+    onVarint noFront (readAt s 0) (λ height first. pick (eqb height 0) (frontOf (walkFrom (length s) count s first [] 0)) noFront)
 
 -- the walk came to the end, with at least one word
 abbrev pub isLeaf : ℕ → List ℕ → Bool

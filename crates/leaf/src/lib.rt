@@ -13,7 +13,7 @@ ghost use Prim.Native.Nat.{_+_, _≤_};
 ghost use lib.ListN.{length, take};
 ghost use lib.Seq.{paste};
 ghost use Rattle.leaf.specs.Leaf.{IsLeaf, NoLeaf, SoundFront};
-ghost use Rattle.leaf.specs.Reading.{listAt, suffixAt, headAt, joinsOf, walkOf};
+ghost use Rattle.leaf.specs.Reading.{listAt, suffixAt, headAt, joinsOf, frontOf, walkOf};
 ghost use Rattle.leaf.specs.Answers.{CheckShape, checkLeaf};
 
 // All leaves together have at most 65,536 bytes.
@@ -42,7 +42,7 @@ pub enum Head {
     Refused,
 }
 
-// The sound front of a leaf: how many words are sound, and where they end.
+// The sound front of a leaf: how many words are sound, and where they end; both 0 where none is.
 pub struct Sound {
     pub words: usize,
     pub end: usize,
@@ -141,6 +141,16 @@ fn put(word: &mut [u8; 64], p: usize, suffix: &[u8])
     }
 }
 
+// The sound front, where the walk ended: with no sound word it is empty.
+fn front(found: Sound) -> Sound
+    ensures { λ r. ⌜ r ≡ frontOf found ⌝ }
+{
+    if found.words == 0 {
+        return Sound { words: 0, end: 0 };
+    }
+    found
+}
+
 // The sound front of a leaf: its words up to the first that breaks a rule.
 pub fn walk(s: &[u8], columns: u64) -> Sound
     ensures reader { λ r. ⌜ r ≡ walkOf columns (now (s .entry)) ⌝ }
@@ -169,13 +179,13 @@ pub fn walk(s: &[u8], columns: u64) -> Sound
             next,
         } = head_at(s, i)
         else {
-            return Sound { words, end: i };
+            return front(Sound { words, end: i });
         };
         if !joins(&word, len, prefix, s[from]) {
-            return Sound { words, end: i };
+            return front(Sound { words, end: i });
         }
         let ListCheck::Accepted = doclist::check(&s[list..next], columns) else {
-            return Sound { words, end: i };
+            return front(Sound { words, end: i });
         };
         let to = from + size;
         put(&mut word, prefix, &s[from..to]);
@@ -183,7 +193,7 @@ pub fn walk(s: &[u8], columns: u64) -> Sound
         words += 1;
         i = next;
     }
-    Sound { words, end: i }
+    front(Sound { words, end: i })
 }
 
 // Checks one leaf.

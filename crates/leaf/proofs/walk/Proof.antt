@@ -2,12 +2,13 @@
 -- goes on from `i` with `words` sound words.
 use Prim.Native.Nat.{ℕ, _+_, _-_, _^_, _≤_, _<_}
 use native.Mathlib.Omega.{arith}
-use mathlib.Core.Path.{_≡_, refl, sym, _∙_}
+use mathlib.Core.Path.{_≡_, refl, sym, ap, _∙_}
 use mathlib.Core.List.{List}
 use lib.ListN.{length, take}
 use borrow.Author.Tests.{ne-eqb, not-true, not-false}
 use borrow.Author.Needs.{needs}
 use Rattle.common.specs.Bytes.{part}
+use Rattle.leaf.specs.Reading.{frontOf}
 use Rattle.leaf.proofs.Heads.{head-sound}
 use Rattle.leaf.proofs.General.{part-length}
 use Rattle.leaf.proofs.Laws.{walked}
@@ -58,14 +59,17 @@ enum-known-prefix c = search needs
 enum-told-2 : tie.Need-enum-told-2 Inv-loop μ-loop
 enum-told-2 c = search needs
 
+front-requires : tie.Need-front-requires Inv-loop μ-loop
+front-requires c κs = tt
+
 returns-3 : tie.Need-returns-3 Inv-loop μ-loop
 returns-3 c =
-    let s : List ℕ = c .before .before .before .before .before .before .before .before .before .before .before .args .s .now in
-    let small : length s < 2 ^ 63 = omega (arith, c .before .before .before .before .before .before .before .before .before .before .before .good .0 .1) in
-    let l = c .before .before .before .before .loop in
+    let s : List ℕ = c .before .before .before .before .before .before .before .before .before .before .before .before .args .s .now in
+    let small : length s < 2 ^ 63 = omega (arith, c .before .before .before .before .before .before .before .before .before .before .before .before .good .0 .1) in
+    let l = c .before .before .before .before .before .loop in
     let w = l .inv .2 in
-    let e = sym (c .before .before .head-at .ensures) ∙ c .enum-told2 .given .1 in
-    walked _ s small (sym (w .goes-on ∙ no-head _ s (l .i) _ _ (w .fuel) (w .enough) (c .before .before .before .loop-test .taken) e))
+    let e = sym (c .before .before .before .head-at .ensures) ∙ c .before .enum-told2 .given .1 in
+    walked _ s small (c .front .ensures ∙ sym (w .goes-on ∙ ap frontOf (no-head _ s (l .i) _ _ (w .fuel) (w .enough) (c .before .before .before .before .loop-test .taken) e)))
 
 shared-slice-read-joins : tie.Need-shared-slice-read-joins Inv-loop μ-loop
 shared-slice-read-joins c =
@@ -80,15 +84,18 @@ joins-requires c κs =
     let l = c .before .before .before .before .before .before .before .loop in
     (l .inv .0, l .inv .1)
 
+front-requires-2 : tie.Need-front-requires-2 Inv-loop μ-loop
+front-requires-2 c κs = tt
+
 returns-4 : tie.Need-returns-4 Inv-loop μ-loop
 returns-4 c =
-    let s : List ℕ = c .before .before .before .before .before .before .before .before .before .before .before .before .before .before .before .before .args .s .now in
-    let small : length s < 2 ^ 63 = omega (arith, c .before .before .before .before .before .before .before .before .before .before .before .before .before .before .before .before .good .0 .1) in
-    let l = c .before .before .before .before .before .before .before .before .before .loop in
+    let s : List ℕ = c .before .before .before .before .before .before .before .before .before .before .before .before .before .before .before .before .before .args .s .now in
+    let small : length s < 2 ^ 63 = omega (arith, c .before .before .before .before .before .before .before .before .before .before .before .before .before .before .before .before .before .good .0 .1) in
+    let l = c .before .before .before .before .before .before .before .before .before .before .loop in
     let w = l .inv .2 in
-    let e = sym (c .before .before .before .before .before .before .before .head-at .ensures) ∙ c .before .before .before .before .before .prefix .given .1 in
-    let j = sym (c .before .joins .ensures) ∙ not-true _ (c .if2 .taken) in
-    walked _ s small (sym (w .goes-on ∙ no-join _ s (l .i) _ _ (c .before .before .before .before .before .before .before .before .loop-test .taken) e (w .fuel) (w .enough) j))
+    let e = sym (c .before .before .before .before .before .before .before .before .head-at .ensures) ∙ c .before .before .before .before .before .before .prefix .given .1 in
+    let j = sym (c .before .before .joins .ensures) ∙ not-true _ (c .before .if2 .taken) in
+    walked _ s small (c .front2 .ensures ∙ sym (w .goes-on ∙ ap frontOf (no-join _ s (l .i) _ _ (c .before .before .before .before .before .before .before .before .before .loop-test .taken) e (w .fuel) (w .enough) j)))
 
 sub-check : tie.Need-sub-check Inv-loop μ-loop
 sub-check c =
@@ -123,16 +130,19 @@ enum-told-3 c = search needs
 enum-told-4 : tie.Need-enum-told-4 Inv-loop μ-loop
 enum-told-4 c = search needs
 
+front-requires-3 : tie.Need-front-requires-3 Inv-loop μ-loop
+front-requires-3 c κs = tt
+
 returns-5 : tie.Need-returns-5 Inv-loop μ-loop
 returns-5 c =
-    let s : List ℕ = c .before .before .before .before .before .before .before .before .before .before .before .before .before .before .before .before .before .before .before .before .args .s .now in
-    let small : length s < 2 ^ 63 = omega (arith, c .before .before .before .before .before .before .before .before .before .before .before .before .before .before .before .before .before .before .before .before .good .0 .1) in
-    let l = c .before .before .before .before .before .before .before .before .before .before .before .before .before .loop in
+    let s : List ℕ = c .before .before .before .before .before .before .before .before .before .before .before .before .before .before .before .before .before .before .before .before .before .args .s .now in
+    let small : length s < 2 ^ 63 = omega (arith, c .before .before .before .before .before .before .before .before .before .before .before .before .before .before .before .before .before .before .before .before .before .good .0 .1) in
+    let l = c .before .before .before .before .before .before .before .before .before .before .before .before .before .before .loop in
     let w = l .inv .2 in
-    let e = sym (c .before .before .before .before .before .before .before .before .before .before .before .head-at .ensures) ∙ c .before .before .before .before .before .before .before .before .before .prefix .given .1 in
-    let j = sym (c .before .before .before .before .before .joins .ensures) ∙ not-false _ (c .before .before .before .before .if2 .left) in
-    let a = sym (c .before .before .check .ensures .0) ∙ c .enum-told4 .given .1 in
-    walked _ s small (sym (w .goes-on ∙ no-list _ s (l .i) _ _ (c .before .before .before .before .before .before .before .before .before .before .before .before .loop-test .taken) e (w .fuel) (w .enough) j a))
+    let e = sym (c .before .before .before .before .before .before .before .before .before .before .before .before .head-at .ensures) ∙ c .before .before .before .before .before .before .before .before .before .before .prefix .given .1 in
+    let j = sym (c .before .before .before .before .before .before .joins .ensures) ∙ not-false _ (c .before .before .before .before .before .if2 .left) in
+    let a = sym (c .before .before .before .check .ensures .0) ∙ c .before .enum-told4 .given .1 in
+    walked _ s small (c .front3 .ensures ∙ sym (w .goes-on ∙ ap frontOf (no-list _ s (l .i) _ _ (c .before .before .before .before .before .before .before .before .before .before .before .before .before .loop-test .taken) e (w .fuel) (w .enough) j a)))
 
 add-to : tie.Need-add-to Inv-loop μ-loop
 add-to c =
@@ -212,13 +222,16 @@ loop-again c =
     let q = part-length s (v .1 .0) (v .1 .0 + v .1 .1 .0) (omega arith) in
     (omega arith, put-length _ (l .word) (part s (v .1 .0) (v .1 .0 + v .1 .1 .0)) (v .0) (c .put .ensures) (omega (arith, l .inv .1)) ∙ l .inv .1, walking-more (l .len) (l .word) _ w (omega (arith, l .inv .0, l .inv .1)) (c .before .before .before .before .before .before .before .before .before .before .before .before .before .before .before .loop-test .taken) e j a (c .put .ensures))
 
+front-requires-4 : tie.Need-front-requires-4 Inv-loop μ-loop
+front-requires-4 c κs = tt
+
 returns-6 : tie.Need-returns-6 Inv-loop μ-loop
 returns-6 c =
-    let s : List ℕ = c .before .before .before .before .before .before .before .before .args .s .now in
-    let small : length s < 2 ^ 63 = omega (arith, c .before .before .before .before .before .before .before .before .good .0 .1) in
-    let l = c .before .loop in
+    let s : List ℕ = c .before .before .before .before .before .before .before .before .before .args .s .now in
+    let small : length s < 2 ^ 63 = omega (arith, c .before .before .before .before .before .before .before .before .before .good .0 .1) in
+    let l = c .before .before .loop in
     let w = l .inv .2 in
-    walked _ s small (sym (w .goes-on ∙ walk-end _ s (l .i) _ _ (w .fuel) (c .loop-test .left)))
+    walked _ s small (c .front4 .ensures ∙ sym (w .goes-on ∙ ap frontOf (walk-end _ s (l .i) _ _ (w .fuel) (c .before .loop-test .left))))
 
 pub walk-spec : {M : Type 1} → statement M
 walk-spec =
@@ -235,9 +248,11 @@ walk-spec =
     head-at-requires
     enum-known-prefix
     enum-told-2
+    front-requires
     returns-3
     shared-slice-read-joins
     joins-requires
+    front-requires-2
     returns-4
     sub-check
     part-check-start
@@ -245,6 +260,7 @@ walk-spec =
     check-requires
     enum-told-3
     enum-told-4
+    front-requires-3
     returns-5
     add-to
     sub-put
@@ -255,4 +271,5 @@ walk-spec =
     add-words
     loop-less
     loop-again
+    front-requires-4
     returns-6)
