@@ -16,11 +16,11 @@ use Rattle.doclist.specs.Doclist.{encodeList}
 use Rattle.leaf.specs.Leaf.{Term, maxWord, shared, sized, termBytes, encodeTerms, encodeLeaf, LeafIs, ListIs, NoTerm}
 use Rattle.leaf.specs.Answers.{CheckShape, checkLeaf}
 use Rattle.leaf.specs.declared.LeafCheck.the-variants.{Accepted}
-use Rattle.leaf.proofs.Laws.{checked}
+use Rattle.leaf.proofs.Checks.{accepted-exactly, checked}
 use Rattle.leaf.proofs.Once.{list-part}
-use Rattle.lookup.specs.Words.{WordShape, LookupShape, WordIs}
+use Rattle.lookup.specs.Words.{LookupShape, WordIs}
 use Rattle.lookup.specs.declared.WordAnswer.the-variants.{Found, Nothing}
-use Rattle.lookup.proofs.WordLaws.{same-terms}
+use Rattle.lookup.proofs.WordLaws.{same-terms, word-claims}
 use Rattle.document.specs.Document.{StandsAt, allWords, distinct, documentTerm, documentTerms, leafOrNothing, documentLeaf, Writable, IsDocument}
 use Rattle.document.proofs.General.{member-some}
 use Rattle.document.proofs.Distinct.{distinct-has, distinct-from}
@@ -102,12 +102,12 @@ module _ (docid : ℕ) (texts : List (List ℕ)) (h : Writable docid texts) (som
 
   -- the leaf is accepted for that column count
   pub leaf-accepted : checkLeaf (length texts) (documentLeaf docid texts) ≡ Accepted
-  leaf-accepted = checked (length texts) (documentLeaf docid texts) refl .1 .1 .0 .1 (leaf-shape, (documentTerms docid texts, leaf-is))
+  leaf-accepted = checked (length texts) (documentLeaf docid texts) refl .1 Accepted .1 (accepted-exactly (length texts) (documentLeaf docid texts) .1 (leaf-shape, (documentTerms docid texts, leaf-is)))
 
   -- an accepted leaf whose entries are exactly the document's is this leaf, byte for byte
   pub leaf-only : (s : List ℕ) → checkLeaf (length texts) s ≡ Accepted → ((ts : List Term) → LeafIs (length texts) s ts → IsDocument docid texts ts) → s ≡ documentLeaf docid texts
   leaf-only s e f =
-      let c = checked (length texts) s refl .1 .1 .0 .0 e .1 in
+      let c = accepted-exactly (length texts) s .0 (checked (length texts) s refl .1 Accepted .0 e) .1 in
       c .1 .bytes ∙ ap encodeLeaf (document-only docid texts (c .0) (f (c .0) (c .1)) h (c .1 .good)) ∙ sym leaf-bytes
 
   -- the leaf has no other content than the document's terms
@@ -131,13 +131,16 @@ module _ (docid : ℕ) (texts : List (List ℕ)) (h : Writable docid texts) (som
       let l = list-stands (documentTerms docid texts) (documentTerm docid texts w) (Memᴰ·map (documentTerm docid texts) (distinct-has (allWords texts) w m)) in (
         l .0,
         l .1,
-        (lookup-shape w (word-some texts w m) (h .short w c p st), (documentTerms docid texts, leaf-is, l .2)),
+        word-claims (length texts) (documentLeaf docid texts) w (Found (l .0) (l .1)) .1
+            (lookup-shape w (word-some texts w m) (h .short w c p st), (documentTerms docid texts, leaf-is, l .2)),
         list-part (length texts) (l .2) (documentLeaf docid texts) leaf-bytes ∙ ap (λ (t : Term). encodeList (t .entries)) (l .3),
       )
 
   -- and any other word is not there
   pub word-missing : (w : List ℕ) → 1 ≤ length w → length w ≤ maxWord → ((c p : ℕ) → StandsAt texts w c p → ⊥) → WordIs (length texts) (documentLeaf docid texts) w Nothing
-  word-missing w l k n = (lookup-shape w l k, (documentTerms docid texts, leaf-is, none (distinct (allWords texts)) (λ m. let r = word-stands texts w (distinct-from (allWords texts) w m) in n (r .0) (r .1) (r .2))))
+  word-missing w l k n =
+      word-claims (length texts) (documentLeaf docid texts) w Nothing .1
+      (lookup-shape w l k, (documentTerms docid texts, leaf-is, none (distinct (allWords texts)) (λ m. let r = word-stands texts w (distinct-from (allWords texts) w m) in n (r .0) (r .1) (r .2))))
     where
       none : (ws : List (List ℕ)) → (List·Memᴰ w ws → ⊥) → NoTerm (map (documentTerm docid texts) ws) w
       none [] f = tt

@@ -1,17 +1,14 @@
--- The calls for C and Rust: each returns document 01's number of its answer and stores the number beside it, and, for a
+-- The calls for C and Rust: each returns document 01's number of its answer and stores the second number, and, for a
 -- lookup, where the part stands. What the answer claims is said by the crates below.
 use Prim.Native.Nat.{ℕ}
 use lib.IntN.{ℤ}
 use lib.ListN.{length}
 use mathlib.Core.Path.{_≡_}
-use mathlib.Core.Logic.{_↔_}
 use mathlib.Core.List.{List}
-use Rattle.leaf.specs.Leaf.{IsLeaf}
-use Rattle.leaf.specs.Answers.{CheckShape, checkNumber}
-use Rattle.leaf.specs.declared.LeafCheck.{LeafCheck}
-use Rattle.leaf.specs.declared.LeafCheck.the-variants as check
-use Rattle.lookup.specs.Words.{WordIs, wordNumber, wordBeside}
-use Rattle.lookup.specs.Entries.{DecidingIs, entryNumber, entryBeside}
+use Rattle.common.specs.Refusals.{numbers, FirstDue}
+use Rattle.leaf.specs.Answers.{checkRefusals}
+use Rattle.lookup.specs.Words.{WordIs, wordNumbers}
+use Rattle.lookup.specs.Entries.{DecidingIs, decidingNumbers}
 use Rattle.lookup.specs.declared.WordAnswer.{WordAnswer}
 use Rattle.lookup.specs.declared.WordAnswer.the-variants as word
 use Rattle.lookup.specs.declared.EntryAnswer.{EntryAnswer}
@@ -21,13 +18,9 @@ use Rattle.writer.specs.declared.Answer.{Answer}
 use Rattle.search.specs.Search as answers
 use Rattle.search.specs.declared.Answer as listing
 
--- checking one leaf: the number beside every answer is 0
-pub record Checked (columns : ℕ) (leaf : List ℕ) (number second : ℕ) : Type 0 where
-  pub answer : LeafCheck
-  pub shape : (answer ≡ check.Shape) ↔ (CheckShape columns leaf → ⊥)
-  pub accepted : (answer ≡ check.Accepted) ↔ (CheckShape columns leaf × IsLeaf columns leaf)
-  pub number-is : number ≡ checkNumber answer
-  pub second-is : second ≡ 0
+-- checking one leaf
+abbrev pub Checked : ℕ → List ℕ → ℕ → ℕ → Type 0
+Checked columns leaf number second = FirstDue (checkRefusals columns leaf) (numbers 0 0) (numbers number second)
 
 -- where the part of a lookup begins; 0 where there is none
 abbrev pub wordStart : WordAnswer → ℕ
@@ -39,8 +32,7 @@ wordStart word.Broken = 0
 pub record LookedUp (columns : ℕ) (leaf wanted : List ℕ) (number second start : ℕ) : Type 0 where
   pub answer : WordAnswer
   pub right : WordIs columns leaf wanted answer
-  pub number-is : number ≡ wordNumber answer
-  pub second-is : second ≡ wordBeside answer
+  pub numbers-are : numbers number second ≡ wordNumbers answer
   pub start-is : start ≡ wordStart answer
 
 abbrev pub entryStart : EntryAnswer → ℕ
@@ -63,23 +55,20 @@ entryLeaf entry.OlderBroken = 0
 pub record Decided (columns : ℕ) (newer older wanted : List ℕ) (docid : ℤ) (number second leaf start : ℕ) : Type 0 where
   pub answer : EntryAnswer
   pub right : DecidingIs columns newer older wanted docid answer
-  pub number-is : number ≡ entryNumber answer
-  pub second-is : second ≡ entryBeside answer
+  pub numbers-are : numbers number second ≡ decidingNumbers answer
   pub leaf-is : leaf ≡ entryLeaf answer
   pub start-is : start ≡ entryStart answer
 
 -- writing the leaf for one document into a room that was `before` and is `after`
 pub record Written (docid : ℤ) (texts ends before after : List ℕ) (number second : ℕ) : Type 0 where
   pub answer : Answer
-  pub right : writer.Answers docid texts ends (length before) answer
+  pub right : writer.WriteIs docid texts ends (length before) answer
   pub answer-is : answer ≡ writer.answerOf docid texts ends (length before)
   pub room-is : after ≡ writer.roomOf docid texts ends (length before)
-  pub number-is : number ≡ writer.number answer
-  pub second-is : second ≡ writer.beside answer
+  pub numbers-are : numbers number second ≡ writer.numbersOf answer
 
 -- a search with a room of `n` numbers, which is `after` then
 pub record Found (x : answers.Input) (n : ℕ) (after : List ℤ) (number second : ℕ) : Type 0 where
   pub answer : listing.Answer
   pub right : answers.Searched x n answer after
-  pub number-is : number ≡ answers.number answer
-  pub second-is : second ≡ answers.beside answer
+  pub numbers-are : numbers number second ≡ answers.numbersOf answer

@@ -1,13 +1,13 @@
 // The counting box for C and Rust: see include/fts4box.h. A slice is passed as a pointer and a length. Each call returns the
-// number of its answer and stores the number beside it.
+// number of its answer and stores the second one.
 use leaf::LeafCheck;
 use lookup::EntryAnswer;
 use lookup::WordAnswer;
 use writer::Answer;
 ghost use mathlib.Core.Path.{_≡_};
 ghost use lib.ListN.{length};
-ghost use Rattle.leaf.specs.Answers.{checkNumber};
-ghost use Rattle.writer.specs.Answers.{number, beside};
+ghost use Rattle.leaf.specs.Answers.{checkNumbers};
+ghost use Rattle.writer.specs.Answers.{numbersOf};
 ghost use Rattle.search.specs.Search as answers;
 ghost use Rattle.fts4box.specs.Calls.{Checked, LookedUp, Decided, Written, Found, wordStart, entryStart, entryLeaf};
 
@@ -24,7 +24,7 @@ const ROOM: u32 = 4;
 const WORD: u32 = 5;
 
 fn check_number(answer: LeafCheck) -> u32
-    ensures { λ r. ⌜ r ≡ checkNumber answer ⌝ }
+    ensures { λ r. ⌜ r ≡ checkNumbers answer .number ⌝ }
 {
     match answer {
         LeafCheck::Accepted => ACCEPTED,
@@ -65,7 +65,7 @@ pub extern "C" fn fts4_lookup(
     ensures { λ r. ⌜ LookedUp columns (now (leaf .entry)) (now (word .entry)) r (now (second .exit)) (now (start .exit)) ⌝ }
 {
     let answer = lookup::find_list(leaf, columns, word);
-    *second = lookup::word_beside(answer);
+    *second = lookup::word_second(answer);
     *start = word_start(answer);
     lookup::word_number(answer)
 }
@@ -111,14 +111,14 @@ pub extern "C" fn fts4_deciding(
     ensures { λ r. ⌜ Decided columns (now (newer .entry)) (now (older .entry)) (now (word .entry)) docid r (now (second .exit)) (now (leaf .exit)) (now (start .exit)) ⌝ }
 {
     let answer = lookup::find_entry(newer, older, columns, word, docid);
-    *second = lookup::entry_beside(answer);
+    *second = lookup::entry_second(answer);
     *leaf = entry_leaf(answer);
     *start = entry_start(answer);
     lookup::entry_number(answer)
 }
 
 fn write_number(answer: Answer) -> u32
-    ensures { λ r. ⌜ r ≡ number answer ⌝ }
+    ensures { λ r. ⌜ r ≡ numbersOf answer .number ⌝ }
 {
     match answer {
         Answer::Written(_) => ACCEPTED,
@@ -129,7 +129,7 @@ fn write_number(answer: Answer) -> u32
 }
 
 fn write_second(answer: Answer) -> u64
-    ensures { λ r. ⌜ r ≡ beside answer ⌝ }
+    ensures { λ r. ⌜ r ≡ numbersOf answer .second ⌝ }
 {
     match answer {
         Answer::Written(n) => n as u64,
@@ -156,7 +156,7 @@ pub extern "C" fn fts4_write(
 }
 
 fn search_number(answer: search::Answer) -> u32
-    ensures { λ r. ⌜ r ≡ answers.number answer ⌝ }
+    ensures { λ r. ⌜ r ≡ answers.numbersOf answer .number ⌝ }
 {
     match answer {
         search::Answer::Found(_) => ACCEPTED,
@@ -168,7 +168,7 @@ fn search_number(answer: search::Answer) -> u32
 }
 
 fn search_second(answer: search::Answer) -> u64
-    ensures { λ r. ⌜ r ≡ answers.beside answer ⌝ }
+    ensures { λ r. ⌜ r ≡ answers.numbersOf answer .second ⌝ }
 {
     match answer {
         search::Answer::Found(n) => n as u64,

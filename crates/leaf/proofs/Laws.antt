@@ -4,26 +4,21 @@ use Prim.Native.Nat.{ℕ, _+_, _^_, _≤_, _<_}
 use native.Mathlib.Omega.{arith}
 use mathlib.Core.Path.{_≡_, refl, sym, ap, ap₂, _∙_, subst}
 use mathlib.Core.Logic.{_↔_}
-use mathlib.Core.Bool.{Bool, true, false}
+use mathlib.Core.Bool.{Bool, true}
 use mathlib.Core.List.{List, [], _∷_, _++_, append-assoc, append-nil}
 use lib.ListN.{length, take, length-drop}
 use lib.Seq.{take-length}
-use lib.Dec.{ltb, leb, eqb}
-use borrow.Author.Tests.{lt-ltb, le-ltb, eq-eqb, ne-eqb, ltb-true, eqb-true, eqb-false, le-leb, lt-leb, leb-true}
-use Rattle.common.specs.Pick.{both}
-use Rattle.common.specs.Bytes.{within}
-use Rattle.common.proofs.Cases.{pick-case, bool-case, false-not-true, split, both-left, both-right, both-true}
+use lib.Dec.{ltb, eqb}
+use borrow.Author.Tests.{lt-ltb, eq-eqb, ne-eqb, ltb-true, eqb-true, eqb-false}
+use Rattle.common.proofs.Cases.{pick-case, both-left, both-right, both-true}
 use Rattle.varint.specs.Varint.{encode, encodeIn, maxBytes, readAt}
 use Rattle.varint.specs.declared.Varint.the-variants as varint
 use Rattle.varint.proofs.Laws.{varint-case, refused-no-value, value-same, stored-at, reads, next-within}
 use Rattle.doclist.proofs.Unique.{list-unique}
-use Rattle.leaf.specs.Leaf.{Term, WellFormed, termBytes, encodeTerms, encodeLeaf, LeafIs, IsLeaf, NoLeaf, SoundFront}
+use Rattle.leaf.specs.Leaf.{Term, WellFormed, termBytes, encodeTerms, encodeLeaf, LeafIs, IsLeaf, SoundFront}
 use Rattle.leaf.specs.Reading.{firstWord, walkFrom, noFront, frontOf, walkOf, isLeaf}
 use Rattle.leaf.specs.Rest.{restBytes, RestIs}
-use Rattle.leaf.specs.Answers.{maxLeaves, checkNumber, CheckShape, checkLeaf}
 use Rattle.leaf.specs.declared.Sound.{Sound}
-use Rattle.leaf.specs.declared.LeafCheck.{LeafCheck}
-use Rattle.leaf.specs.declared.LeafCheck.the-variants.{Accepted, Shape, Broken}
 use Rattle.leaf.proofs.General.{front-here}
 use Rattle.leaf.proofs.Rest.{leaf-rest, head-there, head-complete, none-left}
 use Rattle.leaf.proofs.Walking.{stop, walk-end, front-sound, Passed, walk-passes}
@@ -165,98 +160,3 @@ pub leaf-unique : (count : ℕ) (ts us : List Term) → length (encodeLeaf ts) <
 leaf-unique count ts us small w v e =
     rest-unique count (encodeLeaf ts) small ts us firstWord [] (leaf-rest count (encodeLeaf ts) ts [] w (sym (append-nil (encodeLeaf ts))))
     (leaf-rest count (encodeLeaf ts) us [] v (e ∙ sym (append-nil (encodeLeaf us))))
-
--- ---- the check's answer
-
--- whether number 1 is not due, as the check tests it
-abbrev rightShape : ℕ → List ℕ → Bool
-rightShape count s = both (within 1 16 count) (leb (length s) maxLeaves)
-
-shape-true : (count : ℕ) (s : List ℕ) → CheckShape count s → rightShape count s ≡ true
-shape-true count s h =
-    both-true (within 1 16 count) (leb (length s) maxLeaves)
-    (both-true (leb 1 count) (leb count 16) (le-leb 1 count (h .some)) (le-leb count 16 (h .few)))
-    (le-leb (length s) maxLeaves (h .size))
-
-shape-is : (count : ℕ) (s : List ℕ) → rightShape count s ≡ true → CheckShape count s
-shape-is count s e =
-    let a = both-left (within 1 16 count) (leb (length s) maxLeaves) e in
-    record {
-      some = leb-true 1 count (both-left (leb 1 count) (leb count 16) a);
-      few = leb-true count 16 (both-right (leb 1 count) (leb count 16) a);
-      size = leb-true (length s) maxLeaves (both-right (within 1 16 count) (leb (length s) maxLeaves) e);
-    }
-
--- no two answers are the same
-differ {ℓ} : {X : Type ℓ} {r : LeafCheck} (a b : LeafCheck) → r ≡ a → r ≡ b → (checkNumber a ≡ checkNumber b → ⊥) → X
-differ a b e f n = absurd (n (ap checkNumber (sym e ∙ f)))
-
-module _ (count : ℕ) (s : List ℕ) where
-  check-case : {X : Type 0} {r : LeafCheck} → r ≡ checkLeaf count s → ((CheckShape count s → ⊥) → r ≡ Shape → X)
-      → (CheckShape count s → IsLeaf count s → r ≡ Accepted → X) → (CheckShape count s → NoLeaf count s → r ≡ Broken → X) → X
-  check-case {X} {r} e f g k =
-      bool-case (rightShape count s) (λ t. right t (shape-is count s t)) (λ t. f (λ h. false-not-true (sym t ∙ shape-true count s h)) (e ∙ rw t refl))
-    where
-      right : rightShape count s ≡ true → CheckShape count s → X
-      right t h =
-          let l = leaf-law count s (omega (arith, h .size)) in
-          bool-case (isLeaf count s)
-          (λ u. g h (l .0 u) (e ∙ rw (t, u) refl))
-          (λ u. k h (λ ts i. false-not-true (sym u ∙ l .1 (ts, i))) (e ∙ rw (t, u) refl))
-
--- an answer that is what the check gives tells the shape, the leaves, and what is none
-pub checked : {r : LeafCheck} (count : ℕ) (s : List ℕ) → r ≡ checkLeaf count s
-    → (r ≡ checkLeaf count s)
-    × (((r ≡ Shape) ↔ (CheckShape count s → ⊥))
-    × (((r ≡ Accepted) ↔ (CheckShape count s × IsLeaf count s))
-    × ((r ≡ Broken) ↔ (CheckShape count s × NoLeaf count s))))
-checked count s e = (
-  e,
-  (
-    (
-      λ q h. check-case count s e (λ n _. n h) (λ _ _ p. differ Accepted Shape p q (λ z. omega arith)) (λ _ _ p. differ Broken Shape p q (λ z. omega arith)),
-      λ n. check-case count s e (λ _ p. p) (λ h _ _. absurd (n h)) (λ h _ _. absurd (n h)),
-    ),
-    (
-      (
-        λ q. check-case count s e (λ _ p. differ Shape Accepted p q (λ z. omega arith)) (λ h t _. (h, t)) (λ _ _ p. differ Broken Accepted p q (λ z. omega arith)),
-        λ h. check-case count s e (λ n _. absurd (n (h .0))) (λ _ _ p. p) (λ _ n _. absurd (n (h .1 .0) (h .1 .1))),
-      ),
-      (
-        λ q. check-case count s e (λ _ p. differ Shape Broken p q (λ z. omega arith)) (λ _ _ p. differ Accepted Broken p q (λ z. omega arith)) (λ h n _. (h, n)),
-        λ h. check-case count s e (λ n _. absurd (n (h .0))) (λ _ t _. absurd (h .1 (t .0) (t .1))) (λ _ _ p. p),
-      ),
-    ),
-  ),
-)
-
--- what the check answers, test by test
-module _ (count : ℕ) (s : List ℕ) where
-  pub no-columns : count ≡ 0 → Shape ≡ checkLeaf count s
-  no-columns e = rw e refl
-
-  pub many-columns : 16 < count → Shape ≡ checkLeaf count s
-  many-columns h = sym (simp (le-leb 1 count (omega arith), lt-leb count 16 h))
-
-  pub too-long : 1 ≤ count → count ≤ 16 → maxLeaves < length s → Shape ≡ checkLeaf count s
-  too-long l h m = sym (simp (le-leb 1 count l, le-leb count 16 h, lt-leb (length s) maxLeaves m))
-
-  module _ (h : CheckShape count s) {r : Sound} (e : r ≡ walkOf count s) where
-    pub no-words : r .words ≡ 0 → Broken ≡ checkLeaf count s
-    no-words z =
-        let w : walkOf count s .words ≡ 0 = ap (λ (q : Sound). q .words) (sym e) ∙ z in
-        sym (simp (shape-true count s h, le-ltb 0 (walkOf count s .words) (omega arith)))
-
-    pub not-whole : (r .end ≡ length s → ⊥) → Broken ≡ checkLeaf count s
-    not-whole z =
-        let f : isLeaf count s ≡ false = bool-case (isLeaf count s)
-        (λ t. absurd (z (ap (λ (q : Sound). q .end) e ∙ eqb-true (walkOf count s .end) (length s) (both-right (ltb 0 (walkOf count s .words)) (eqb (walkOf count s .end) (length s)) t))))
-        (λ t. t) in
-        sym (rw (shape-true count s h, f) refl)
-
-    pub whole : (r .words ≡ 0 → ⊥) → r .end ≡ length s → Accepted ≡ checkLeaf count s
-    whole n z =
-        let w : r .words ≡ walkOf count s .words = ap (λ (q : Sound). q .words) e in
-        let x : walkOf count s .end ≡ length s = ap (λ (q : Sound). q .end) (sym e) ∙ z in
-        let t : 0 < walkOf count s .words = split 0 (walkOf count s .words) (λ p. p) (λ p. absurd (n (omega arith))) in
-        sym (rw (shape-true count s h, both-true (ltb 0 (walkOf count s .words)) (eqb (walkOf count s .end) (length s)) (lt-ltb _ _ t) (eq-eqb _ _ x)) refl)

@@ -4,4 +4,5 @@ pub mod Heads
 pub mod Rest
 pub mod Walking
 pub mod Laws
+pub mod Checks
 pub mod Once

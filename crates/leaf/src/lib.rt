@@ -12,9 +12,9 @@ ghost use mathlib.Core.Logic.{_↔_};
 ghost use Prim.Native.Nat.{_+_, _≤_};
 ghost use lib.ListN.{length, take};
 ghost use lib.Seq.{paste};
-ghost use Rattle.leaf.specs.Leaf.{IsLeaf, NoLeaf, SoundFront};
+ghost use Rattle.leaf.specs.Leaf.{SoundFront};
 ghost use Rattle.leaf.specs.Reading.{listAt, suffixAt, headAt, joinsOf, frontOf, walkOf};
-ghost use Rattle.leaf.specs.Answers.{CheckShape, checkLeaf};
+ghost use Rattle.leaf.specs.Answers.{CheckIs, checkLeaf};
 
 // All leaves together have at most 65,536 bytes.
 pub const MAX_LEAVES: usize = 65536;
@@ -199,9 +199,7 @@ pub fn walk(s: &[u8], columns: u64) -> Sound
 // Checks one leaf.
 pub fn check(leaf: &[u8], columns: u32) -> LeafCheck
     ensures reader { λ r. ⌜ r ≡ checkLeaf columns (now (leaf .entry)) ⌝ }
-    ensures shape { λ r. ⌜ ((r ≡ LeafCheck.Shape) ↔ (CheckShape columns (now (leaf .entry)) → ⊥)) ⌝ }
-    ensures content { λ r. ⌜ ((r ≡ LeafCheck.Accepted) ↔ (CheckShape columns (now (leaf .entry)) × IsLeaf columns (now (leaf .entry)))) ⌝ }
-    ensures broken { λ r. ⌜ ((r ≡ LeafCheck.Broken) ↔ (CheckShape columns (now (leaf .entry)) × NoLeaf columns (now (leaf .entry)))) ⌝ }
+    ensures exact { λ r. ⌜ ((a : LeafCheck) → (r ≡ a) ↔ CheckIs columns (now (leaf .entry)) a) ⌝ }
 {
     if columns == 0 {
         return LeafCheck::Shape;

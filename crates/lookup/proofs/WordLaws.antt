@@ -1,17 +1,22 @@
--- Of the answers of a lookup in one leaf exactly one is right (`word-exact`), and for an accepted leaf it is what the
--- terms say (`found-of`, `nothing-of`).
+-- Of the answers of a lookup in one leaf exactly one is right (`word-exact`): what each comes to (`word-claims`), for an
+-- accepted leaf in its terms (`found-of`, `nothing-of`), and what its number says (`accepted-exactly`, `shape-exactly`,
+-- `broken-exactly`).
 use Prim.Native.Nat.{ℕ, _+_, _≤_}
 use native.Mathlib.Omega.{arith}
 use mathlib.Core.Path.{_≡_, refl, sym, ap, ap₂, _∙_, subst}
-use mathlib.Core.Logic.{_↔_}
+use mathlib.Core.Logic.{_↔_, inl, inr, ⊎-elim}
 use mathlib.Core.List.{List, [], _∷_}
 use lib.ListN.{length}
 use denote.Enum.Declared.{tagOf}
-use Rattle.leaf.specs.Leaf.{Term, LeafIs, ListIs, NoTerm}
+use Rattle.common.specs.Refusals.{Exclusive, Numbered}
+use Rattle.common.proofs.Refusals.{number-differs}
+use Rattle.common.proofs.Refusals as refusals
+use Rattle.leaf.specs.Leaf.{Term, LeafIs, IsLeaf, NoLeaf, ListIs, NoTerm}
 use Rattle.leaf.specs.Answers.{maxLeaves}
 use Rattle.leaf.proofs.Laws.{leaf-unique}
+use Rattle.leaf.proofs.Checks.{leaves-exclusive, leaves-numbered}
 use Rattle.leaf.proofs.Once.{list-once, list-not-none}
-use Rattle.lookup.specs.Words.{LookupShape, Tells, WordIs, wordPart}
+use Rattle.lookup.specs.Words.{LookupShape, wordNumbers, wordRefusals, WordFound, WordIs, wordPart}
 use Rattle.lookup.specs.declared.WordAnswer.{WordAnswer}
 use Rattle.lookup.specs.declared.WordAnswer.the-variants.{Found, Nothing, Shape, Broken}
 use Rattle.lookup.proofs.WordAnswer.{the-type}
@@ -23,29 +28,99 @@ same-terms columns leaf ts us h l m =
     leaf-unique columns ts us (omega (arith, ap length (l .bytes))) (l .good) (m .good) (sym (l .bytes) ∙ m .bytes)
 
 module _ (columns : ℕ) (leaf word : List ℕ) where
+  pub refusals-exclusive : Exclusive (wordRefusals columns leaf word)
+  refusals-exclusive = (λ n h. n h, leaves-exclusive columns 0 (leaf ∷ []))
+
+  pub refusals-numbered : Numbered (wordRefusals columns leaf word)
+  refusals-numbered = (omega arith, leaves-numbered columns 0 (leaf ∷ []))
+
+  -- number 0 says that the leaf is accepted
+  pub accepted-exactly : {r : WordAnswer} → WordIs columns leaf word r → (wordNumbers r .number ≡ 0) ↔ (LookupShape columns leaf word × IsLeaf columns leaf)
+  accepted-exactly {r} w =
+      let k = refusals.accepted-exactly (wordRefusals columns leaf word) refusals-exclusive refusals-numbered (wordNumbers r .second) (wordNumbers r) (w .answered) in
+      (λ e. let q = k .0 e in (q .0, q .1 .0), λ h. k .1 (h .0, (h .1, tt)))
+
+  -- ---- what each answer comes to
+
+  abbrev pub WordClaim : WordAnswer → Type 0
+  WordClaim (Found start size) = LookupShape columns leaf word × ((ts : List Term) × LeafIs columns leaf ts × ListIs ts word start size)
+  WordClaim Nothing = LookupShape columns leaf word × ((ts : List Term) × LeafIs columns leaf ts × NoTerm ts word)
+  WordClaim Shape = LookupShape columns leaf word → ⊥
+  WordClaim Broken = LookupShape columns leaf word × NoLeaf columns leaf
+
+  is-claim : (r : WordAnswer) → WordIs columns leaf word r → WordClaim r
+  is-claim (Found start size) w = let k = accepted-exactly w .0 refl in (k .0, (k .1 .0, k .1 .1, w .found (k .1 .0) (k .0) (k .1 .1)))
+  is-claim Nothing w = let k = accepted-exactly w .0 refl in (k .0, (k .1 .0, k .1 .1, w .found (k .1 .0) (k .0) (k .1 .1)))
+  is-claim Shape w =
+      ⊎-elim
+      (λ h. h .0)
+      (λ h. ⊎-elim (λ k. number-differs (k .1) (λ z. omega arith)) (λ k. number-differs (k .1) (λ z. omega arith)) (h .1))
+      (w .answered)
+  is-claim Broken w =
+      ⊎-elim
+      (λ h. number-differs (h .1) (λ z. omega arith))
+      (λ h. (h .0, ⊎-elim (λ k. k .0) (λ k. number-differs (k .1) (λ z. omega arith)) (h .1)))
+      (w .answered)
+
+  claim-is : (r : WordAnswer) → WordClaim r → WordIs columns leaf word r
+  claim-is (Found start size) p =
+      record {
+        answered = inr (p .0, inr ((p .1 .0, p .1 .1), refl));
+        found = λ us h m. subst (λ (x : List Term). ListIs x word start size) (same-terms columns leaf (p .1 .0) us (h .leaf-right .size) (p .1 .1) m) (p .1 .2);
+      }
+  claim-is Nothing p =
+      record {
+        answered = inr (p .0, inr ((p .1 .0, p .1 .1), refl));
+        found = λ us h m. subst (λ (x : List Term). NoTerm x word) (same-terms columns leaf (p .1 .0) us (h .leaf-right .size) (p .1 .1) m) (p .1 .2);
+      }
+  claim-is Shape p = record { answered = inl (p, refl); found = λ us h m. p h }
+  claim-is Broken p = record { answered = inr (p .0, inl (p .1, refl)); found = λ us h m. p .1 us m }
+
+  pub word-claims : (r : WordAnswer) → WordIs columns leaf word r ↔ WordClaim r
+  word-claims r = (is-claim r, claim-is r)
+
   -- with the terms of the leaf at hand
   pub found-of : (ts : List Term) → LookupShape columns leaf word → LeafIs columns leaf ts → (start size : ℕ)
       → WordIs columns leaf word (Found start size) ↔ ListIs ts word start size
-  found-of ts h l start size = (
-    λ w. subst (λ (us : List Term). ListIs us word start size) (same-terms columns leaf (w .1 .0) ts (h .leaf-right .size) (w .1 .1) l) (w .1 .2),
-    λ i. (h, (ts, l, i)),
-  )
+  found-of ts h l start size = (λ w. w .found ts h l, λ i. claim-is (Found start size) (h, (ts, l, i)))
 
   pub nothing-of : (ts : List Term) → LookupShape columns leaf word → LeafIs columns leaf ts → WordIs columns leaf word Nothing ↔ NoTerm ts word
-  nothing-of ts h l = (
-    λ w. subst (λ (us : List Term). NoTerm us word) (same-terms columns leaf (w .1 .0) ts (h .leaf-right .size) (w .1 .1) l) (w .1 .2),
-    λ n. (h, (ts, l, n)),
-  )
+  nothing-of ts h l = (λ w. w .found ts h l, λ n. claim-is Nothing (h, (ts, l, n)))
 
-  found-none : (start size : ℕ) → WordIs columns leaf word (Found start size) → WordIs columns leaf word Nothing → ⊥
-  found-none start size p q = list-not-none (p .1 .2) (nothing-of (p .1 .0) (p .0) (p .1 .1) .0 q)
+  -- what the numbers 1 and 3 say
+  pub shape-exactly : {r : WordAnswer} → WordIs columns leaf word r → (wordNumbers r .number ≡ 1) ↔ (LookupShape columns leaf word → ⊥)
+  shape-exactly {r} w = go r (is-claim r w)
+    where
+      go : (r : WordAnswer) → WordClaim r → (wordNumbers r .number ≡ 1) ↔ (LookupShape columns leaf word → ⊥)
+      go (Found start size) p = (λ z. absurd (omega arith), λ n. absurd (n (p .0)))
+      go Nothing p = (λ z. absurd (omega arith), λ n. absurd (n (p .0)))
+      go Shape p = (λ _. p, λ _. refl)
+      go Broken p = (λ z. absurd (omega arith), λ n. absurd (n (p .0)))
 
-  found-same : (a b c d : ℕ) → WordIs columns leaf word (Found a b) → WordIs columns leaf word (Found c d) → Found a b ≡ Found c d
+  pub broken-exactly : {r : WordAnswer} → WordIs columns leaf word r → (wordNumbers r .number ≡ 3) ↔ (LookupShape columns leaf word × NoLeaf columns leaf)
+  broken-exactly {r} w = go r (is-claim r w)
+    where
+      go : (r : WordAnswer) → WordClaim r → (wordNumbers r .number ≡ 3) ↔ (LookupShape columns leaf word × NoLeaf columns leaf)
+      go (Found start size) p = (λ z. absurd (omega arith), λ n. absurd (n .1 (p .1 .0) (p .1 .1)))
+      go Nothing p = (λ z. absurd (omega arith), λ n. absurd (n .1 (p .1 .0) (p .1 .1)))
+      go Shape p = (λ z. absurd (omega arith), λ n. absurd (p (n .0)))
+      go Broken p = (λ _. p, λ _. refl)
+
+  -- ---- one answer is right
+
+  -- in the terms of the first
+  same-list : {ts us : List Term} → LookupShape columns leaf word → LeafIs columns leaf ts → LeafIs columns leaf us → us ≡ ts
+  same-list {ts} {us} h l m = same-terms columns leaf us ts (h .leaf-right .size) m l
+
+  found-none : (start size : ℕ) → WordClaim (Found start size) → WordClaim Nothing → ⊥
+  found-none start size p q = list-not-none (p .1 .2) (subst (λ (x : List Term). NoTerm x word) (same-list (p .0) (p .1 .1) (q .1 .1)) (q .1 .2))
+
+  found-same : (a b c d : ℕ) → WordClaim (Found a b) → WordClaim (Found c d) → Found a b ≡ Found c d
   found-same a b c d p q =
-      let e = list-once columns (p .1 .1 .good) (p .1 .2) (found-of (p .1 .0) (p .0) (p .1 .1) c d .0 q) in
+      let e = list-once columns (p .1 .1 .good) (p .1 .2) (subst (λ (x : List Term). ListIs x word c d) (same-list (p .0) (p .1 .1) (q .1 .1)) (q .1 .2)) in
       ap₂ Found (e .0) (e .1)
 
-  word-once : (a b : WordAnswer) → WordIs columns leaf word a → WordIs columns leaf word b → a ≡ b
+  word-once : (a b : WordAnswer) → WordClaim a → WordClaim b → a ≡ b
   word-once (Found a b) (Found c d) p q = found-same a b c d p q
   word-once (Found a b) Nothing p q = absurd (found-none a b p q)
   word-once (Found a b) Shape p q = absurd (q (p .0))
@@ -64,17 +139,17 @@ module _ (columns : ℕ) (leaf word : List ℕ) where
   word-once Broken Broken p q = refl
 
   -- an answer whose claim holds is given exactly
-  pub word-exact : {r : WordAnswer} → WordIs columns leaf word r → (a : WordAnswer) → (r ≡ a) ↔ WordIs columns leaf word a
-  word-exact {r} p a = (λ e. subst (WordIs columns leaf word) e p, λ q. word-once r a p q)
+  pub word-exact : {r : WordAnswer} → WordClaim r → (a : WordAnswer) → (r ≡ a) ↔ WordIs columns leaf word a
+  word-exact {r} p a = (λ e. claim-is a (subst WordClaim e p), λ q. word-once r a p (is-claim a q))
 
-  pub tells-is : (ts : List Term) → LookupShape columns leaf word → LeafIs columns leaf ts → (r : WordAnswer) → Tells ts word r → WordIs columns leaf word r
-  tells-is ts h l (Found start size) t = (h, (ts, l, t))
-  tells-is ts h l Nothing t = (h, (ts, l, t))
-  tells-is ts h l Shape t = absurd t
-  tells-is ts h l Broken t = absurd t
+  pub found-claim : (ts : List Term) → LookupShape columns leaf word → LeafIs columns leaf ts → (r : WordAnswer) → WordFound ts word r → WordClaim r
+  found-claim ts h l (Found start size) t = (h, (ts, l, t))
+  found-claim ts h l Nothing t = (h, (ts, l, t))
+  found-claim ts h l Shape t = absurd t
+  found-claim ts h l Broken t = absurd t
 
   pub found-inside : (start size : ℕ) → WordIs columns leaf word (Found start size) → start + size ≤ length leaf
-  found-inside start size p = omega (arith, p .1 .2 .inside, ap length (p .1 .1 .bytes))
+  found-inside start size w = let p = is-claim (Found start size) w in omega (arith, p .1 .2 .inside, ap length (p .1 .1 .bytes))
 
 -- where a match falls past what was found, the part is empty
 pub none-found : (bytes : List ℕ) (r : WordAnswer) → OneOf (1 ∷ 2 ∷ 3 ∷ []) (tagOf the-type r) → [] ≡ wordPart bytes r

@@ -2,15 +2,16 @@
 -- the docid where it has one, a deletion too; else the older's. Exactly one answer's claim holds, and that answer is given.
 use Prim.Native.Nat.{ℕ, _+_, _-_, _≤_}
 use mathlib.Core.Path.{_≡_}
-use mathlib.Core.List.{List, []}
+use mathlib.Core.List.{List, [], _∷_}
 use lib.IntN.{ℤ, pos, natAbs}
 use lib.ListN.{length}
 use Rattle.common.specs.Bytes.{part}
+use Rattle.common.specs.Refusals.{Numbers, numbers, Refusal, FirstDue, shapeRefusal}
 use Rattle.doclist.specs.Doclist.{maxColumns, entryPlace}
 use Rattle.doclist.specs.declared.EntryAt.{EntryAt}
 use Rattle.doclist.specs.declared.EntryAt.the-variants.{At, Absent, Refused}
-use Rattle.leaf.specs.Leaf.{Term, LeafIs, NoLeaf, ListIs}
-use Rattle.leaf.specs.Answers.{maxLeaves}
+use Rattle.leaf.specs.Leaf.{Term, LeafIs, ListIs}
+use Rattle.leaf.specs.Answers.{maxLeaves, leafRefusals}
 use Rattle.lookup.specs.Words.{WordShape}
 use Rattle.lookup.specs.declared.EntryAnswer.{EntryAnswer}
 use Rattle.lookup.specs.declared.EntryAnswer.the-variants.{Newer, Older, Nothing, Shape, NewerBroken, OlderBroken}
@@ -32,10 +33,10 @@ abbrev pub NoEntry : List Term → List ℕ → ℕ → Type 0
 NoEntry ts word docid = (start size : ℕ) → EntryIs ts word docid start size → ⊥
 
 -- what a place says of the terms of an accepted leaf
-abbrev pub EntryTold : List Term → List ℕ → ℕ → EntryAt → Type 0
-EntryTold ts word docid (At start end) = (start ≤ end) × EntryIs ts word docid start (end - start)
-EntryTold ts word docid Absent = NoEntry ts word docid
-EntryTold ts word docid Refused = ⊥
+abbrev pub EntryFound : List Term → List ℕ → ℕ → EntryAt → Type 0
+EntryFound ts word docid (At start end) = (start ≤ end) × EntryIs ts word docid start (end - start)
+EntryFound ts word docid Absent = NoEntry ts word docid
+EntryFound ts word docid Refused = ⊥
 
 -- ---- the entry that decides
 
@@ -60,40 +61,30 @@ Decides ts us word docid Shape = ⊥
 Decides ts us word docid NewerBroken = ⊥
 Decides ts us word docid OlderBroken = ⊥
 
--- what each answer claims
-abbrev pub DecidingIs : ℕ → List ℕ → List ℕ → List ℕ → ℤ → EntryAnswer → Type 0
-DecidingIs columns newer older word docid (Newer start size) =
-    DecidingShape columns newer older word docid
-    × ((ts us : List Term) × LeavesAre columns newer older ts us × EntryIs ts word (natAbs docid) start size)
-DecidingIs columns newer older word docid (Older start size) =
-    DecidingShape columns newer older word docid
-    × ((ts us : List Term) × LeavesAre columns newer older ts us × NoEntry ts word (natAbs docid) × EntryIs us word (natAbs docid) start size)
-DecidingIs columns newer older word docid Nothing =
-    DecidingShape columns newer older word docid
-    × ((ts us : List Term) × LeavesAre columns newer older ts us × NoEntry ts word (natAbs docid) × NoEntry us word (natAbs docid))
-DecidingIs columns newer older word docid Shape = DecidingShape columns newer older word docid → ⊥
-DecidingIs columns newer older word docid NewerBroken = DecidingShape columns newer older word docid × NoLeaf columns newer
-DecidingIs columns newer older word docid OlderBroken =
-    DecidingShape columns newer older word docid × ((ts : List Term) × LeafIs columns newer ts) × NoLeaf columns older
-
--- ---- document 01's numbers, and the part
-
-abbrev pub entryNumber : EntryAnswer → ℕ
-entryNumber (Newer start size) = 0
-entryNumber (Older start size) = 0
-entryNumber Nothing = 0
-entryNumber Shape = 1
-entryNumber NewerBroken = 3
-entryNumber OlderBroken = 3
+-- ---- document 01's numbers
 
 -- beside 3 stands the leaf: the newer is 0, the older 1
-abbrev pub entryBeside : EntryAnswer → ℕ
-entryBeside (Newer start size) = size
-entryBeside (Older start size) = size
-entryBeside Nothing = 0
-entryBeside Shape = 0
-entryBeside NewerBroken = 0
-entryBeside OlderBroken = 1
+abbrev pub decidingNumbers : EntryAnswer → Numbers
+decidingNumbers (Newer start size) = numbers 0 size
+decidingNumbers (Older start size) = numbers 0 size
+decidingNumbers Nothing = numbers 0 0
+decidingNumbers Shape = numbers 1 0
+decidingNumbers NewerBroken = numbers 3 0
+decidingNumbers OlderBroken = numbers 3 1
+
+-- "Checks: 1, then 3 (the newer leaf is 0)."
+abbrev pub decidingRefusals : ℕ → List ℕ → List ℕ → List ℕ → ℤ → List Refusal
+decidingRefusals columns newer older word docid =
+    shapeRefusal (DecidingShape columns newer older word docid) ∷ leafRefusals columns 0 (newer ∷ older ∷ [])
+
+-- ---- the claim
+
+-- what an answer claims: the first refusal that is due; where none is, the entry that decides
+pub record DecidingIs (columns : ℕ) (newer older word : List ℕ) (docid : ℤ) (r : EntryAnswer) : Type 0 where
+  pub answered : FirstDue (decidingRefusals columns newer older word docid) (numbers 0 (decidingNumbers r .second)) (decidingNumbers r)
+  pub decides : (ts us : List Term) → DecidingShape columns newer older word docid → LeavesAre columns newer older ts us → Decides ts us word (natAbs docid) r
+
+-- ---- the part
 
 abbrev pub entryPart : List ℕ → List ℕ → EntryAnswer → List ℕ
 entryPart newer older (Newer start size) = part newer start (start + size)
@@ -104,9 +95,8 @@ entryPart newer older NewerBroken = []
 entryPart newer older OlderBroken = []
 
 -- what the lookup hands back: the part and the two numbers of the answer whose claim holds
-pub record EntryGiven (columns : ℕ) (newer older word : List ℕ) (docid : ℤ) (part : List ℕ) (number beside : ℕ) : Type 0 where
+pub record EntryGiven (columns : ℕ) (newer older word : List ℕ) (docid : ℤ) (part : List ℕ) (number second : ℕ) : Type 0 where
   pub answer : EntryAnswer
   pub right : DecidingIs columns newer older word docid answer
   pub part-is : part ≡ entryPart newer older answer
-  pub number-is : number ≡ entryNumber answer
-  pub beside-is : beside ≡ entryBeside answer
+  pub numbers-are : numbers number second ≡ decidingNumbers answer

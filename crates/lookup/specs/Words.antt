@@ -2,11 +2,12 @@
 -- them. Exactly one answer's claim holds, and that answer is given.
 use Prim.Native.Nat.{ℕ, _+_, _≤_}
 use mathlib.Core.Path.{_≡_}
-use mathlib.Core.List.{List, []}
+use mathlib.Core.List.{List, [], _∷_}
 use lib.ListN.{length}
 use Rattle.common.specs.Bytes.{part}
-use Rattle.leaf.specs.Leaf.{Term, maxWord, LeafIs, NoLeaf, ListIs, NoTerm}
-use Rattle.leaf.specs.Answers.{CheckShape}
+use Rattle.common.specs.Refusals.{Numbers, numbers, Refusal, FirstDue, shapeRefusal}
+use Rattle.leaf.specs.Leaf.{Term, maxWord, LeafIs, ListIs, NoTerm}
+use Rattle.leaf.specs.Answers.{CheckShape, leafRefusals}
 use Rattle.lookup.specs.declared.WordAnswer.{WordAnswer}
 use Rattle.lookup.specs.declared.WordAnswer.the-variants.{Found, Nothing, Shape, Broken}
 
@@ -20,33 +21,33 @@ pub record LookupShape (columns : ℕ) (leaf word : List ℕ) : Type 0 where
   pub leaf-right : CheckShape columns leaf
   pub word-right : WordShape word
 
+-- ---- document 01's numbers
+
+abbrev pub wordNumbers : WordAnswer → Numbers
+wordNumbers (Found start size) = numbers 0 size
+wordNumbers Nothing = numbers 0 0
+wordNumbers Shape = numbers 1 0
+wordNumbers Broken = numbers 3 0
+
+-- "Checks: 1, then 3"
+abbrev pub wordRefusals : ℕ → List ℕ → List ℕ → List Refusal
+wordRefusals columns leaf word = shapeRefusal (LookupShape columns leaf word) ∷ leafRefusals columns 0 (leaf ∷ [])
+
+-- ---- the claim
+
 -- what an answer says of the terms of an accepted leaf
-abbrev pub Tells : List Term → List ℕ → WordAnswer → Type 0
-Tells ts word (Found start size) = ListIs ts word start size
-Tells ts word Nothing = NoTerm ts word
-Tells ts word Shape = ⊥
-Tells ts word Broken = ⊥
+abbrev pub WordFound : List Term → List ℕ → WordAnswer → Type 0
+WordFound ts word (Found start size) = ListIs ts word start size
+WordFound ts word Nothing = NoTerm ts word
+WordFound ts word Shape = ⊥
+WordFound ts word Broken = ⊥
 
--- what each answer claims
-abbrev pub WordIs : ℕ → List ℕ → List ℕ → WordAnswer → Type 0
-WordIs columns leaf word (Found start size) = LookupShape columns leaf word × ((ts : List Term) × LeafIs columns leaf ts × ListIs ts word start size)
-WordIs columns leaf word Nothing = LookupShape columns leaf word × ((ts : List Term) × LeafIs columns leaf ts × NoTerm ts word)
-WordIs columns leaf word Shape = LookupShape columns leaf word → ⊥
-WordIs columns leaf word Broken = LookupShape columns leaf word × NoLeaf columns leaf
+-- what an answer claims: the first refusal that is due; where none is, where the word's list stands
+pub record WordIs (columns : ℕ) (leaf word : List ℕ) (r : WordAnswer) : Type 0 where
+  pub answered : FirstDue (wordRefusals columns leaf word) (numbers 0 (wordNumbers r .second)) (wordNumbers r)
+  pub found : (ts : List Term) → LookupShape columns leaf word → LeafIs columns leaf ts → WordFound ts word r
 
--- ---- document 01's numbers, and the part
-
-abbrev pub wordNumber : WordAnswer → ℕ
-wordNumber (Found start size) = 0
-wordNumber Nothing = 0
-wordNumber Shape = 1
-wordNumber Broken = 3
-
-abbrev pub wordBeside : WordAnswer → ℕ
-wordBeside (Found start size) = size
-wordBeside Nothing = 0
-wordBeside Shape = 0
-wordBeside Broken = 0
+-- ---- the part
 
 abbrev pub wordPart : List ℕ → WordAnswer → List ℕ
 wordPart leaf (Found start size) = part leaf start (start + size)
@@ -55,9 +56,8 @@ wordPart leaf Shape = []
 wordPart leaf Broken = []
 
 -- what a lookup hands back: the part and the two numbers of the answer whose claim holds
-pub record WordGiven (columns : ℕ) (leaf word part : List ℕ) (number beside : ℕ) : Type 0 where
+pub record WordGiven (columns : ℕ) (leaf word part : List ℕ) (number second : ℕ) : Type 0 where
   pub answer : WordAnswer
   pub right : WordIs columns leaf word answer
   pub part-is : part ≡ wordPart leaf answer
-  pub number-is : number ≡ wordNumber answer
-  pub beside-is : beside ≡ wordBeside answer
+  pub numbers-are : numbers number second ≡ wordNumbers answer

@@ -10,8 +10,8 @@ ghost use Prim.Native.Nat.{ℕ, _≤_, _<_};
 ghost use lib.ListN.{length};
 ghost use Rattle.leaf.specs.Leaf.{Term, LeafIs};
 ghost use Rattle.lookup.specs.Order.{OrderIs, SharedMost, StandsIs};
-ghost use Rattle.lookup.specs.Words.{Tells, WordIs, wordNumber, wordBeside, WordGiven};
-ghost use Rattle.lookup.specs.Entries.{EntryTold, LeavesAre, Decides, DecidingShape, DecidingIs, entryNumber, entryBeside, EntryGiven};
+ghost use Rattle.lookup.specs.Words.{WordFound, WordIs, wordNumbers, WordGiven};
+ghost use Rattle.lookup.specs.Entries.{EntryFound, LeavesAre, Decides, DecidingShape, DecidingIs, decidingNumbers, EntryGiven};
 
 // Document 01's numbers of the answers.
 const ACCEPTED: u32 = 0;
@@ -88,7 +88,7 @@ fn stands(word: &[u8], same: usize, prefix: usize, suffix: &[u8]) -> Order
 // Finds the posting list of a word in a leaf that was checked: up to the first word that does not come before it.
 fn seek(leaf: &[u8], word: &[u8]) -> WordAnswer
     requires { ⌜ 0 < length (now word) ⌝ }
-    ensures { λ r. ⌜ ((columns : ℕ) (ts : List Term) → LeafIs columns (now (leaf .entry)) ts → Tells ts (now (word .entry)) r) ⌝ }
+    ensures { λ r. ⌜ ((columns : ℕ) (ts : List Term) → LeafIs columns (now (leaf .entry)) ts → WordFound ts (now (word .entry)) r) ⌝ }
 {
     let mut same: usize = 0;
     let mut i = leaf::FIRST_WORD;
@@ -142,7 +142,7 @@ pub fn find_list(leaf: &[u8], columns: u32, word: &[u8]) -> WordAnswer
 
 // The number of an answer.
 pub fn word_number(answer: WordAnswer) -> u32
-    ensures { λ r. ⌜ r ≡ wordNumber answer ⌝ }
+    ensures { λ r. ⌜ r ≡ wordNumbers answer .number ⌝ }
 {
     match answer {
         WordAnswer::Found { start: _, size: _ } => ACCEPTED,
@@ -152,9 +152,9 @@ pub fn word_number(answer: WordAnswer) -> u32
     }
 }
 
-// The number beside it: the bytes of the part.
-pub fn word_beside(answer: WordAnswer) -> u64
-    ensures { λ r. ⌜ r ≡ wordBeside answer ⌝ }
+// The second number: the bytes of the part.
+pub fn word_second(answer: WordAnswer) -> u64
+    ensures { λ r. ⌜ r ≡ wordNumbers answer .second ⌝ }
 {
     match answer {
         WordAnswer::Found { start: _, size } => size as u64,
@@ -164,20 +164,20 @@ pub fn word_beside(answer: WordAnswer) -> u64
     }
 }
 
-// The posting list of a word in one leaf, as a part of it; the empty part where there is none. `number` and `beside` get
+// The posting list of a word in one leaf, as a part of it; the empty part where there is none. `number` and `second` get
 // the answer's two numbers.
 pub fn lookup<'a>(
     leaf: &'a [u8],
     columns: u32,
     word: &[u8],
     number: &mut u32,
-    beside: &mut u64,
+    second: &mut u64,
 ) -> &'a [u8]
-    ensures { λ r. ⌜ WordGiven columns (now (leaf .entry)) (now (word .entry)) (now r) (now (number .exit)) (now (beside .exit)) ⌝ }
+    ensures { λ r. ⌜ WordGiven columns (now (leaf .entry)) (now (word .entry)) (now r) (now (number .exit)) (now (second .exit)) ⌝ }
 {
     let answer = find_list(leaf, columns, word);
     *number = word_number(answer);
-    *beside = word_beside(answer);
+    *second = word_second(answer);
     match answer {
         WordAnswer::Found { start, size } => {
             let end = start + size;
@@ -206,7 +206,7 @@ pub enum EntryAnswer {
 // Where the entry of a docid for a word stands in a leaf that was checked.
 fn entry_in(leaf: &[u8], columns: u64, word: &[u8], docid: u64) -> EntryAt
     requires { ⌜ (0 < length (now word)) × ((ts : List Term) × LeafIs columns (now leaf) ts) ⌝ }
-    ensures { λ r. ⌜ ((ts : List Term) → LeafIs columns (now (leaf .entry)) ts → EntryTold ts (now (word .entry)) docid r) ⌝ }
+    ensures { λ r. ⌜ ((ts : List Term) → LeafIs columns (now (leaf .entry)) ts → EntryFound ts (now (word .entry)) docid r) ⌝ }
 {
     let WordAnswer::Found { start, size } = seek(leaf, word) else {
         return EntryAt::Absent;
@@ -288,7 +288,7 @@ pub fn find_entry(newer: &[u8], older: &[u8], columns: u32, word: &[u8], docid: 
 
 // The number of an answer.
 pub fn entry_number(answer: EntryAnswer) -> u32
-    ensures { λ r. ⌜ r ≡ entryNumber answer ⌝ }
+    ensures { λ r. ⌜ r ≡ decidingNumbers answer .number ⌝ }
 {
     match answer {
         EntryAnswer::Newer { start: _, size: _ } => ACCEPTED,
@@ -300,9 +300,9 @@ pub fn entry_number(answer: EntryAnswer) -> u32
     }
 }
 
-// The number beside it: the bytes of the part, or the broken leaf, the newer 0 and the older 1.
-pub fn entry_beside(answer: EntryAnswer) -> u64
-    ensures { λ r. ⌜ r ≡ entryBeside answer ⌝ }
+// The second number: the bytes of the part, or the broken leaf, the newer 0 and the older 1.
+pub fn entry_second(answer: EntryAnswer) -> u64
+    ensures { λ r. ⌜ r ≡ decidingNumbers answer .second ⌝ }
 {
     match answer {
         EntryAnswer::Newer { start: _, size } => size as u64,
@@ -315,7 +315,7 @@ pub fn entry_beside(answer: EntryAnswer) -> u64
 }
 
 // The entry that decides in two leaves, as a part of whichever holds it; the empty part where there is none. `number` and
-// `beside` get the answer's two numbers.
+// `second` get the answer's two numbers.
 pub fn deciding<'a>(
     newer: &'a [u8],
     older: &'a [u8],
@@ -323,13 +323,13 @@ pub fn deciding<'a>(
     word: &[u8],
     docid: i64,
     number: &mut u32,
-    beside: &mut u64,
+    second: &mut u64,
 ) -> &'a [u8]
-    ensures { λ r. ⌜ EntryGiven columns (now (newer .entry)) (now (older .entry)) (now (word .entry)) docid (now r) (now (number .exit)) (now (beside .exit)) ⌝ }
+    ensures { λ r. ⌜ EntryGiven columns (now (newer .entry)) (now (older .entry)) (now (word .entry)) docid (now r) (now (number .exit)) (now (second .exit)) ⌝ }
 {
     let answer = find_entry(newer, older, columns, word, docid);
     *number = entry_number(answer);
-    *beside = entry_beside(answer);
+    *second = entry_second(answer);
     match answer {
         EntryAnswer::Newer { start, size } => {
             let end = start + size;

@@ -14,29 +14,27 @@ use Rattle.offsets.specs.Cut.{cut, startOf}
 use Rattle.offsets.proofs.Cuts.{length-cut, part-at}
 use Rattle.offsets.proofs.CutSteps.{no-part}
 use Rattle.leaf.specs.Leaf.{Term, LeafIs, IsLeaf, AreLeaves}
-use Rattle.leaf.specs.Answers.{CheckShape}
+use Rattle.leaf.specs.Answers.{CheckShape, CheckIs}
 use Rattle.leaf.specs.declared.LeafCheck.{LeafCheck}
 use Rattle.leaf.specs.declared.LeafCheck.the-variants.{Accepted, Shape, Broken}
+use Rattle.leaf.proofs.Checks as check
 use Rattle.search.specs.Checking.{SoundLeaves}
 
 -- ---- one leaf
 
 -- what `leaf::check` promises
 abbrev pub Checked : ℕ → List ℕ → LeafCheck → Type 0
-Checked count s r = (r ≡ Accepted) ↔ (CheckShape count s × IsLeaf count s)
+Checked count s r = (a : LeafCheck) → (r ≡ a) ↔ CheckIs count s a
 
 module _ (count : ℕ) (s : List ℕ) (r : LeafCheck) (k : Checked count s r) (shape : CheckShape count s) where
   pub accepted-leaf : r ≡ Accepted → (true ≡ true) ↔ IsLeaf count s
-  accepted-leaf e = (λ t. k .0 e .1, λ t. refl)
-
-  not-accepted : (r ≡ Accepted → ⊥) → (false ≡ true) ↔ IsLeaf count s
-  not-accepted n = (false-not-true, λ t. absurd (n (k .1 (shape, t))))
+  accepted-leaf e = (λ t. check.accepted-exactly count s .0 (k Accepted .0 e) .1, λ t. refl)
 
   pub shape-leaf : r ≡ Shape → (false ≡ true) ↔ IsLeaf count s
-  shape-leaf e = not-accepted (λ f. let z : _≡_ {A = ℕ} 0 1 = cc in absurd (omega arith))
+  shape-leaf e = (false-not-true, λ t. absurd (check.shape-exactly count s .0 (k Shape .0 e) shape))
 
   pub broken-leaf : r ≡ Broken → (false ≡ true) ↔ IsLeaf count s
-  broken-leaf e = not-accepted (λ f. let z : _≡_ {A = ℕ} 0 1 = cc in absurd (omega arith))
+  broken-leaf e = (false-not-true, λ t. absurd (check.broken-exactly count s .0 (k Broken .0 e) .1 (t .0) (t .1)))
 
 -- ---- parts of the bytes
 

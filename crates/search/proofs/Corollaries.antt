@@ -1,20 +1,20 @@
--- What a search's promise says of its answer, one theorem for each demand. `s` is the promise for any search in a room of
--- `n` numbers that answered `r` and left `room`.
+-- What a search's promise says of its answer, one theorem for each demand, and what each number says (`accepted-exactly`
+-- and the like). `s` is the promise for any search in a room of `n` numbers that answered `r` and left `room`.
 use Prim.Native.Nat.{ℕ, zero, suc, _+_, _-_, _≤_, _<_}
 use native.Mathlib.Nat.{not-suc-le-zero, le-of-suc-le-suc}
 use native.Mathlib.Omega.{arith}
 use mathlib.Core.Path.{_≡_, refl, sym, ap, _∙_, subst}
-use mathlib.Core.Logic.{_↔_, ⊎-elim}
+use mathlib.Core.Logic.{_↔_, _⊎_, inl, inr, ⊎-elim}
 use mathlib.Core.List.{List, [], _∷_, _++_, map, List·Memᴰ, List·Memᴰ·head, List·Memᴰ·not-nil, Memᴰ·map, Memᴰ·of-map}
 use lib.IntN.{ℤ, pos}
 use lib.ListN.{length, getD, take, length-map}
 use lib.Seq.{take-at}
-use Rattle.common.specs.Bytes.{same}
-use Rattle.common.proofs.Cases.{bool-case, false-not-true}
-use Rattle.common.proofs.Lists.{same-true, same-refl}
+use Rattle.common.specs.Refusals.{Numbers, numbers, Refusal, FirstDue, roomRefusal}
+use Rattle.common.proofs.Refusals.{passes, gives, number-differs, first-due-once}
 use Rattle.offsets.proofs.Cuts.{length-cut}
 use Rattle.doclist.specs.Doclist.{Rising, docidLimit}
-use Rattle.leaf.specs.Leaf.{Term, NoLeaf, AreLeaves}
+use Rattle.leaf.specs.Leaf.{Term, IsLeaf, NoLeaf, AreLeaves}
+use Rattle.leaf.specs.Answers.{leafRefusals}
 use Rattle.lexer.specs.Token.{QueryWord}
 use Rattle.query.specs.Tree.{Tree, NOT, leaf, joined}
 use Rattle.query.proofs.Bounds as bounds
@@ -23,16 +23,13 @@ use Rattle.meaning.specs.Index.{live}
 use Rattle.meaning.specs.Listing.{Answers, shown, roomWith, zeros}
 use Rattle.meaning.proofs.Lists.{lists-unique, rising-low}
 use Rattle.meaning.proofs.Some.{Worded, WordedTree, holds-some}
-use Rattle.search.specs.Search.{Numbers, numbers, numbersOf, Input, columnCount, leafBytes, ShapeRight, IsQuery, Refusal, leafRefusals, roomRefusal, refusals, FirstDue, roomFor, Searched}
+use Rattle.search.specs.Search.{numbersOf, Input, columnCount, leafBytes, ShapeRight, IsQuery, Searchable, refusals, roomFor, Searched}
+use Rattle.search.specs.Checking.{SoundLeaves}
 use Rattle.search.specs.declared.Answer.{Answer}
 use Rattle.search.specs.declared.Answer.the-variants as answer
-use Rattle.search.proofs.Order.{numbers-once}
+use Rattle.search.proofs.Order.{numbers-once, refusals-exclusive, first-broken, broken-first, searchable, last-due, behind-shape, behind-query, room-gives, other-need}
 
--- ---- the order of refusals
-
--- what is due to nobody does not stop the others
-pub passed : (f : Refusal) (fs : List Refusal) (accepted m : Numbers) → (f .due → ⊥) → FirstDue (f ∷ fs) accepted m → FirstDue fs accepted m
-passed f fs accepted m n d = ⊎-elim (λ h. absurd (n (h .0))) (λ h. h .1) d
+-- ---- the leaves that break a rule
 
 -- the leaf `i` breaks a rule
 abbrev pub Breaks : Input → List (List ℕ) → ℕ → Type 0
@@ -44,7 +41,7 @@ pub record FirstBroken (x : Input) (bs : List (List ℕ)) (k i : ℕ) (r : Answe
   pub answers : r ≡ answer.Leaf (k + first)
   pub not-later : first ≤ i
   pub breaks : Breaks x bs first
-  pub others-keep : (j : ℕ) → j < first → Breaks x bs j → ⊥
+  pub others-keep : (j : ℕ) → j < first → IsLeaf (columnCount x) (getD bs j [])
 
 module _ (x : Input) (r : Answer) where
   broken-here : (k i : ℕ) (b : List ℕ) (bs : List (List ℕ)) → NoLeaf (columnCount x) b → numbersOf r ≡ numbers 3 k → FirstBroken x (b ∷ bs) k i r
@@ -52,8 +49,8 @@ module _ (x : Input) (r : Answer) where
       let e : k ≡ k + 0 = omega arith in
       record { first = 0; answers = numbers-once r (answer.Leaf k) a ∙ ap answer.Leaf e; not-later = omega arith; breaks = n; others-keep = λ j m. absurd (not-suc-le-zero m) }
 
-  broken-later : (k i : ℕ) (b : List ℕ) (bs : List (List ℕ)) → (NoLeaf (columnCount x) b → ⊥) → FirstBroken x bs (suc k) i r → FirstBroken x (b ∷ bs) k (suc i) r
-  broken-later k i b bs n f =
+  broken-later : (k i : ℕ) (b : List ℕ) (bs : List (List ℕ)) → IsLeaf (columnCount x) b → FirstBroken x bs (suc k) i r → FirstBroken x (b ∷ bs) k (suc i) r
+  broken-later k i b bs l f =
       let e : suc k + f .first ≡ k + suc (f .first) = omega arith in
       record {
         first = suc (f .first);
@@ -63,21 +60,16 @@ module _ (x : Input) (r : Answer) where
         others-keep = others;
       }
     where
-      others : (j : ℕ) → j < suc (f .first) → Breaks x (b ∷ bs) j → ⊥
-      others zero m c = n c
-      others (suc j) m c = f .others-keep j (le-of-suc-le-suc m) c
+      others : (j : ℕ) → j < suc (f .first) → IsLeaf (columnCount x) (getD (b ∷ bs) j [])
+      others zero m = l
+      others (suc j) m = f .others-keep j (le-of-suc-le-suc m)
 
-  first-of : (fs : List Refusal) (accepted : Numbers) (k i : ℕ) (bs : List (List ℕ)) → i < length bs → Breaks x bs i → FirstDue (leafRefusals x k bs ++ fs) accepted (numbersOf r) → FirstBroken x bs k i r
+  first-of : (fs : List Refusal) (accepted : Numbers) (k i : ℕ) (bs : List (List ℕ)) → i < length bs → Breaks x bs i → FirstDue (leafRefusals (columnCount x) k bs ++ fs) accepted (numbersOf r)
+      → FirstBroken x bs k i r
   first-of fs accepted k i [] l b d = absurd (not-suc-le-zero l)
-  first-of fs accepted k zero (c ∷ bs) l b d = ⊎-elim (λ h. broken-here k 0 c bs (h .0) (h .1)) (λ h. absurd (h .0 b)) d
+  first-of fs accepted k zero (c ∷ bs) l b d = ⊎-elim (λ h. broken-here k 0 c bs (h .0) (h .1)) (λ h. absurd (b (h .0 .0) (h .0 .1))) d
   first-of fs accepted k (suc i) (c ∷ bs) l b d =
       ⊎-elim (λ h. broken-here k (suc i) c bs (h .0) (h .1)) (λ h. broken-later k i c bs (h .0) (first-of fs accepted (suc k) i bs (le-of-suc-le-suc l) b (h .1))) d
-
--- leaves that all keep the rules are refused by none
-all-keep : (x : Input) (fs : List Refusal) (accepted m : Numbers) (k : ℕ) (bs : List (List ℕ)) (index : List (List Term)) → AreLeaves (columnCount x) bs index → FirstDue (leafRefusals x k bs ++ fs) accepted m → FirstDue fs accepted m
-all-keep x fs accepted m k [] index h d = d
-all-keep x fs accepted m k (b ∷ bs) [] h d = absurd h
-all-keep x fs accepted m k (b ∷ bs) (t ∷ ts) h d = ⊎-elim (λ e. absurd (e .0 t (h .0))) (λ e. all-keep x fs accepted m (suc k) bs ts (h .1) (e .1)) d
 
 -- ---- lists of docids
 
@@ -123,96 +115,60 @@ none-satisfies t d w h = List·Memᴰ·not-nil (holds-some (StandsAt (live []) d
 
 -- ---- two answers
 
--- where the same refusals can be due, the same answer is given
-first-due-once : (fs : List Refusal) (accepted r q : Numbers) → FirstDue fs accepted r → FirstDue fs accepted q → r ≡ q
-first-due-once [] accepted r q d e = d ∙ sym e
-first-due-once (f ∷ fs) accepted r q d e =
-    ⊎-elim
-    (λ h. ⊎-elim (λ k. h .1 ∙ sym (k .1)) (λ k. absurd (k .0 (h .0))) e)
-    (λ h. ⊎-elim (λ k. absurd (h .0 (k .0))) (λ k. first-due-once fs accepted r q (h .1) (k .1)) e)
-    d
+-- a refusal leaves zeros, whatever the list is
+pub refused-zeros : (n : ℕ) (docids : List ℕ) (r : Answer) → (numbersOf r .number ≡ 0 → ⊥) → roomFor n docids r ≡ zeros n
+refused-zeros n docids (answer.Found k) z = absurd (z refl)
+refused-zeros n docids answer.Shape z = refl
+refused-zeros n docids answer.Query z = refl
+refused-zeros n docids (answer.Leaf i) z = refl
+refused-zeros n docids (answer.Room k) z = refl
 
--- it can't be that there is none
-abbrev NotNone : Type 0 → Type 0
-NotNone P = (P → ⊥) → ⊥
+-- the checks were passed: the number is 0 or 4
+abbrev pub Passed : Answer → Type 0
+Passed r = (numbersOf r .number ≡ 0) ⊎ (numbersOf r .number ≡ 4)
 
-abbrev SomeQuery : Input → Type 0
-SomeQuery x = (tree : Tree) × IsQuery x tree
+passed-or-not : (r : Answer) → Passed r ⊎ (((numbersOf r .number ≡ 0) → ⊥) × ((numbersOf r .number ≡ 4) → ⊥))
+passed-or-not (answer.Found n) = inl (inl refl)
+passed-or-not answer.Shape = inr (λ z. omega arith, λ z. omega arith)
+passed-or-not answer.Query = inr (λ z. omega arith, λ z. omega arith)
+passed-or-not (answer.Leaf i) = inr (λ z. omega arith, λ z. omega arith)
+passed-or-not (answer.Room n) = inl (inr refl)
 
-abbrev SomeLeaves : Input → List (List ℕ) → Type 0
-SomeLeaves x bs = (index : List (List Term)) × AreLeaves (columnCount x) bs index
-
-module _ (x : Input) (n : ℕ) (r q : Answer) (ds es : List ℕ) where
-  -- the same answer, and the same in the room
-  abbrev Agreed : Type 0
-  Agreed = (r ≡ q) × (roomFor n ds r ≡ roomFor n es q)
-
-  -- the same refusal leaves zeros, whatever the lists are
-  refusals-agree : (a : Answer) → roomFor n ds a ≡ roomFor n es a → numbersOf r ≡ numbersOf a → numbersOf q ≡ numbersOf a → Agreed
-  refusals-agree a z d g =
-      let e = numbers-once r a d in
-      let f = numbers-once q a g in
-      (e ∙ sym f, ap (roomFor n ds) e ∙ z ∙ sym (ap (roomFor n es) f))
-
-  lists-agree : ds ≡ es → FirstDue (roomRefusal n (length ds) ∷ []) (numbers 0 (length ds)) (numbersOf r)
-      → FirstDue (roomRefusal n (length es) ∷ []) (numbers 0 (length es)) (numbersOf q) → Agreed
-  lists-agree m d e =
-      let f = subst (λ l. FirstDue (roomRefusal n (length l) ∷ []) (numbers 0 (length l)) (numbersOf r)) m d in
-      let a = numbers-once r q (first-due-once (roomRefusal n (length es) ∷ []) (numbers 0 (length es)) (numbersOf r) (numbersOf q) f e) in
-      (a, ap (roomFor n ds) a ∙ ap (λ l. roomFor n l q) m)
-
-  leaves-agree : (k : ℕ) (bs : List (List ℕ)) → (NotNone (SomeLeaves x bs) → ds ≡ es)
-      → FirstDue (leafRefusals x k bs ++ roomRefusal n (length ds) ∷ []) (numbers 0 (length ds)) (numbersOf r)
-      → FirstDue (leafRefusals x k bs ++ roomRefusal n (length es) ∷ []) (numbers 0 (length es)) (numbersOf q) → Agreed
-  leaves-agree k [] m d e = lists-agree (m (λ f. f ([], tt))) d e
-  leaves-agree k (b ∷ bs) m d e =
-      ⊎-elim
-      (λ h. ⊎-elim (λ g. refusals-agree (answer.Leaf k) refl (h .1) (g .1)) (λ g. absurd (g .0 (h .0))) e)
-      (λ h.
-      ⊎-elim
-      (λ g. absurd (h .0 (g .0)))
-      (λ g. leaves-agree (suc k) bs (λ l. m (λ f. h .0 (λ t i. l (λ j. f (t ∷ j .0, (i, j .1)))))) (h .1) (g .1))
-      e)
-      d
-
-  answers-agree : (NotNone (ShapeRight x) → NotNone (SomeQuery x) → NotNone (SomeLeaves x (leafBytes x)) → ds ≡ es)
-      → FirstDue (refusals x n (length ds)) (numbers 0 (length ds)) (numbersOf r)
-      → FirstDue (refusals x n (length es)) (numbers 0 (length es)) (numbersOf q) → Agreed
-  answers-agree m d e =
-      ⊎-elim
-      (λ h. ⊎-elim (λ g. refusals-agree answer.Shape refl (h .1) (g .1)) (λ g. absurd (g .0 (h .0))) e)
-      (λ h.
-      ⊎-elim
-      (λ g. absurd (h .0 (g .0)))
-      (λ g.
-      ⊎-elim
-      (λ i. ⊎-elim (λ j. refusals-agree answer.Query refl (i .1) (j .1)) (λ j. absurd (j .0 (i .0))) (g .1))
-      (λ i.
-      ⊎-elim
-      (λ j. absurd (i .0 (j .0)))
-      (λ j. leaves-agree 0 (leafBytes x) (m (h .0) (λ f. i .0 (λ tree p. f (tree, p)))) (i .1) (j .1))
-      (g .1))
-      (h .1))
-      e)
-      d
+passed-searchable : (x : Input) (n : ℕ) (r : Answer) (room : List ℤ) (s : Searched x n r room) → Passed r
+    → Searchable x × FirstDue (roomRefusal n (length (s .docids)) ∷ []) (numbers 0 (length (s .docids))) (numbersOf r)
+passed-searchable x n r room s p =
+    searchable x n (length (s .docids)) (numbersOf r) (not-other 1 (λ z. omega arith) (λ z. omega arith)) (not-other 2 (λ z. omega arith) (λ z. omega arith)) (not-other 3 (λ z. omega arith) (λ z. omega arith)) (s .answered)
+  where
+    not-other : (k : ℕ) → (0 ≡ k → ⊥) → (4 ≡ k → ⊥) → numbersOf r .number ≡ k → ⊥
+    not-other k a b e = ⊎-elim (λ z. a (sym z ∙ e)) (λ z. b (sym z ∙ e)) p
 
 -- the answer and what the room holds are unique
 pub answer-unique : (x : Input) (n : ℕ) (r q : Answer) (room left : List ℤ) → Searched x n r room → Searched x n q left → (r ≡ q) × (room ≡ left)
 answer-unique x n r q room left s t =
-    let a = answers-agree x n r q (s .docids) (t .docids) once (s .answered) (t .answered) in
-    (a .0, s .left ∙ a .1 ∙ sym (t .left))
+    ⊎-elim
+    (λ a. agree (once (passed-searchable x n r room s a .0)))
+    (λ a. ⊎-elim (λ b. agree (once (passed-searchable x n q left t b .0))) (λ b. refused a b) (passed-or-not q))
+    (passed-or-not r)
   where
-    once : NotNone (ShapeRight x) → NotNone (SomeQuery x) → NotNone (SomeLeaves x (leafBytes x)) → s .docids ≡ t .docids
-    once p y l =
-        bool-case (same (s .docids) (t .docids))
-        (λ e. same-true (s .docids) (t .docids) e)
-        (λ e.
-        absurd
-        (p (λ shape.
-        y (λ z.
-        l (λ i.
-        let u = lists-unique _ (s .docids) (t .docids) (s .listed (z .0) (i .0) shape (z .1) (i .1)) (t .listed (z .0) (i .0) shape (z .1) (i .1)) in
-        false-not-true (sym e ∙ ap (same (s .docids)) (sym u) ∙ same-refl (s .docids)))))))
+    once : Searchable x → s .docids ≡ t .docids
+    once a =
+        lists-unique _ (s .docids) (t .docids)
+        (s .listed (a .tree) (a .index) (a .shape) (a .is-query) (a .are-leaves)) (t .listed (a .tree) (a .index) (a .shape) (a .is-query) (a .are-leaves))
+
+    same-answer : FirstDue (refusals x n (length (t .docids))) (numbers 0 (length (t .docids))) (numbersOf r) → r ≡ q
+    same-answer d =
+        numbers-once r q
+        (first-due-once (refusals x n (length (t .docids))) (refusals-exclusive x n (length (t .docids))) (numbers 0 (length (t .docids))) (numbersOf r) (numbersOf q) d (t .answered))
+
+    agree : s .docids ≡ t .docids → (r ≡ q) × (room ≡ left)
+    agree e =
+        let p = same-answer (subst (λ (l : List ℕ). FirstDue (refusals x n (length l)) (numbers 0 (length l)) (numbersOf r)) e (s .answered)) in
+        (p, s .left ∙ ap (roomFor n (s .docids)) p ∙ ap (λ (l : List ℕ). roomFor n l q) e ∙ sym (t .left))
+
+    refused : ((numbersOf r .number ≡ 0) → ⊥) × ((numbersOf r .number ≡ 4) → ⊥) → ((numbersOf q .number ≡ 0) → ⊥) × ((numbersOf q .number ≡ 4) → ⊥) → (r ≡ q) × (room ≡ left)
+    refused a b =
+        let p = same-answer (other-need x n (length (s .docids)) (length (t .docids)) (numbersOf r) (a .0) (a .1) (s .answered)) in
+        (p, s .left ∙ refused-zeros n (s .docids) r (a .0) ∙ sym (refused-zeros n (t .docids) q (b .0)) ∙ sym (t .left))
 
 -- ---- the search
 
@@ -230,27 +186,19 @@ module _ (x : Input) (n : ℕ) (r : Answer) (room : List ℤ) (s : Searched x n 
     pub listed-rising : (i j : ℕ) → i < j → j < length (s .docids) → getD (s .docids) i 0 < getD (s .docids) j 0
     listed-rising = rising-order 0 docidLimit (s .docids) (list .rising)
 
-    last-due : FirstDue (roomRefusal n (length (s .docids)) ∷ []) (numbers 0 (length (s .docids))) (numbersOf r)
-    last-due =
-        let m = length (s .docids) in
-        let fs = roomRefusal n m ∷ [] in
-        let a = numbers 0 m in
-        let q : Refusal = record { due = (tree : Tree) → IsQuery x tree → ⊥; given = numbers 2 0 } in
-        let p : Refusal = record { due = ShapeRight x → ⊥; given = numbers 1 0 } in
-        all-keep x fs a (numbersOf r) 0 (leafBytes x) index leaves
-        (passed q (leafRefusals x 0 (leafBytes x) ++ fs) a (numbersOf r) (λ h. h tree query)
-        (passed p (q ∷ (leafRefusals x 0 (leafBytes x) ++ fs)) a (numbersOf r) (λ h. h shape) (s .answered)))
+    decides : FirstDue (roomRefusal n (length (s .docids)) ∷ []) (numbers 0 (length (s .docids))) (numbersOf r)
+    decides = last-due x n (length (s .docids)) (numbersOf r) shape tree query index leaves (s .answered)
 
     -- with room for the answers it is accepted: the count is the list's length, and the room holds the list and zeros
     pub count-is-length : length (s .docids) ≤ n → (r ≡ answer.Found (length (s .docids))) × (room ≡ roomWith n (s .docids))
     count-is-length h =
-        let e : r ≡ answer.Found (length (s .docids)) = ⊎-elim (λ d. absurd (let k = d .0 in omega arith)) (λ d. numbers-once r (answer.Found (length (s .docids))) (d .1)) last-due in
+        let e : r ≡ answer.Found (length (s .docids)) = ⊎-elim (λ d. absurd (let k = d .0 in omega arith)) (λ d. numbers-once r (answer.Found (length (s .docids))) (d .1)) decides in
         (e, s .left ∙ ap (roomFor n (s .docids)) e)
 
     -- with too little room it is refused: the need is the length of that same list, and the room holds zeros
     pub need-is-length : n < length (s .docids) → (r ≡ answer.Room (length (s .docids))) × (room ≡ zeros n)
     need-is-length h =
-        let e : r ≡ answer.Room (length (s .docids)) = ⊎-elim (λ d. numbers-once r (answer.Room (length (s .docids))) (d .1)) (λ d. absurd (d .0 h)) last-due in
+        let e : r ≡ answer.Room (length (s .docids)) = ⊎-elim (λ d. numbers-once r (answer.Room (length (s .docids))) (d .1)) (λ d. absurd (let k = d .0 in omega arith)) decides in
         (e, s .left ∙ ap (roomFor n (s .docids)) e)
 
     -- the docids that stand in the room are those that satisfy
@@ -281,17 +229,128 @@ module _ (x : Input) (n : ℕ) (r : Answer) (room : List ℤ) (s : Searched x n 
       → FirstBroken x (leafBytes x) 0 i r × (room ≡ zeros n)
   refused-leaf tree shape query i l b =
       let m = length (s .docids) in
-      let fs = roomRefusal n m ∷ [] in
-      let a = numbers 0 m in
-      let q : Refusal = record { due = (tree : Tree) → IsQuery x tree → ⊥; given = numbers 2 0 } in
-      let p : Refusal = record { due = ShapeRight x → ⊥; given = numbers 1 0 } in
       let c = length-cut (x .leaves) (x .leaf-ends) in
-      let f = first-of x r fs a 0 i (leafBytes x) (omega arith) b
-      (passed q (leafRefusals x 0 (leafBytes x) ++ fs) a (numbersOf r) (λ h. h tree query)
-      (passed p (q ∷ (leafRefusals x 0 (leafBytes x) ++ fs)) a (numbersOf r) (λ h. h shape) (s .answered))) in
+      let f = first-of x r (roomRefusal n m ∷ []) (numbers 0 m) 0 i (leafBytes x) (omega arith) b (passes (λ f. f tree query) (passes (λ f. f shape) (s .answered) .1) .1) in
       (f, s .left ∙ ap (roomFor n (s .docids)) (f .answers))
+
+  -- a broken shape, and a query that is none, are refused by their number, and zeros
+  pub refused-shape : (ShapeRight x → ⊥) → (r ≡ answer.Shape) × (room ≡ zeros n)
+  refused-shape h =
+      let e = numbers-once r answer.Shape (gives h (s .answered) .1) in
+      (e, s .left ∙ ap (roomFor n (s .docids)) e)
+
+  pub refused-query : ShapeRight x → ((tree : Tree) → IsQuery x tree → ⊥) → (r ≡ answer.Query) × (room ≡ zeros n)
+  refused-query shape h =
+      let e = numbers-once r answer.Query (gives (λ q. h (q .0) (q .1)) (passes (λ f. f shape) (s .answered) .1) .1) in
+      (e, s .left ∙ ap (roomFor n (s .docids)) e)
 
   -- a row that satisfies the right side of a NOT is not in the list
   pub not-right-side : (left right : Tree) (index : List (List Term)) → ShapeRight x → IsQuery x (joined NOT left right) → AreLeaves (columnCount x) (leafBytes x) index
       → (d : ℕ) → d < docidLimit → Satisfies (live index) d right → List·Memᴰ d (s .docids) → ⊥
   not-right-side left right index shape query leaves d h t m = listed-satisfies (joined NOT left right) index shape query leaves d h .0 m .1 t
+
+  -- ---- what each number says
+
+  -- answer 0 or 4 ⇔ the shape is right, the query is a tree, and the leaves have terms
+  pub searchable-exactly : Passed r ↔ Searchable x
+  searchable-exactly = (
+    λ p. passed-searchable x n r room s p .0,
+    λ a.
+        ⊎-elim
+        (λ h. inr (ap (λ (m : Numbers). m .number) (h .1)))
+        (λ h. inl (ap (λ (m : Numbers). m .number) (h .1)))
+        (decides (a .tree) (a .index) (a .shape) (a .is-query) (a .are-leaves)),
+  )
+
+  -- the list of a search that passes the checks
+  same-list : (a : Searchable x) (docids : List ℕ) → Answers (a .index) (a .tree) docids → docids ≡ s .docids
+  same-list a docids h = lists-unique _ docids (s .docids) h (s .listed (a .tree) (a .index) (a .shape) (a .is-query) (a .are-leaves))
+
+  -- answer 0 ⇔ so, and the list of all docids that satisfy the query is no longer than the room
+  pub accepted-exactly : (numbersOf r .number ≡ 0) ↔ ((a : Searchable x) × (docids : List ℕ) × Answers (a .index) (a .tree) docids × (length docids ≤ n))
+  accepted-exactly = (there, back)
+    where
+      there : numbersOf r .number ≡ 0 → (a : Searchable x) × (docids : List ℕ) × Answers (a .index) (a .tree) docids × (length docids ≤ n)
+      there z =
+          let w = passed-searchable x n r room s (inl z) in
+          let a = w .0 in (
+            a,
+            s .docids,
+            s .listed (a .tree) (a .index) (a .shape) (a .is-query) (a .are-leaves),
+            ⊎-elim (λ h. let e = ap (λ (m : Numbers). m .number) (h .1) in absurd (omega arith)) (λ h. h .0) (w .1),
+          )
+
+      back : (a : Searchable x) × (docids : List ℕ) × Answers (a .index) (a .tree) docids × (length docids ≤ n) → numbersOf r .number ≡ 0
+      back h =
+          let a = h .0 in
+          let l = subst (λ (ds : List ℕ). length ds ≤ n) (same-list a (h .1) (h .2)) (h .3) in
+          ap (λ (q : Answer). numbersOf q .number) (count-is-length (a .tree) (a .index) (a .shape) (a .is-query) (a .are-leaves) l .0)
+
+  -- answer 4 ⇔ it is longer
+  pub no-room-exactly : (numbersOf r .number ≡ 4) ↔ ((a : Searchable x) × (docids : List ℕ) × Answers (a .index) (a .tree) docids × (n < length docids))
+  no-room-exactly = (there, back)
+    where
+      there : numbersOf r .number ≡ 4 → (a : Searchable x) × (docids : List ℕ) × Answers (a .index) (a .tree) docids × (n < length docids)
+      there z =
+          let w = passed-searchable x n r room s (inr z) in
+          let a = w .0 in (
+            a,
+            s .docids,
+            s .listed (a .tree) (a .index) (a .shape) (a .is-query) (a .are-leaves),
+            ⊎-elim (λ h. h .0) (λ h. let e = ap (λ (m : Numbers). m .number) (h .1) in absurd (omega arith)) (w .1),
+          )
+
+      back : (a : Searchable x) × (docids : List ℕ) × Answers (a .index) (a .tree) docids × (n < length docids) → numbersOf r .number ≡ 4
+      back h =
+          let a = h .0 in
+          let l = subst (λ (ds : List ℕ). n < length ds) (same-list a (h .1) (h .2)) (h .3) in
+          ap (λ (q : Answer). numbersOf q .number) (need-is-length (a .tree) (a .index) (a .shape) (a .is-query) (a .are-leaves) l .0)
+
+  -- answer 1 ⇔ the shape is broken
+  pub shape-exactly : (numbersOf r .number ≡ 1) ↔ (ShapeRight x → ⊥)
+  shape-exactly = (
+    λ z h. behind-shape x n (length (s .docids)) (numbersOf r) (passes (λ f. f h) (s .answered) .1) z,
+    λ h. ap (λ (q : Answer). numbersOf q .number) (refused-shape h .0),
+  )
+
+  -- answer 2 ⇔ the shape is right and the query is none
+  pub query-exactly : (numbersOf r .number ≡ 2) ↔ (ShapeRight x × ((tree : Tree) → IsQuery x tree → ⊥))
+  query-exactly = (
+    λ z.
+        ⊎-elim
+        (λ h. let e = ap (λ (m : Numbers). m .number) (h .1) in absurd (omega arith))
+        (λ h. (h .0, λ tree q. behind-query x n (length (s .docids)) (numbersOf r) (passes (λ f. f tree q) (h .1) .1) z))
+        (s .answered),
+    λ h. ap (λ (q : Answer). numbersOf q .number) (refused-query (h .0) (h .1) .0),
+  )
+
+  -- answer 3 with `i` ⇔ the shape is right, the query is a tree, and the leaf `i` is the first that breaks a rule
+  pub leaf-exactly : (i : ℕ) → (numbersOf r ≡ numbers 3 i)
+      ↔ (ShapeRight x × ((tree : Tree) × IsQuery x tree) × SoundLeaves (columnCount x) (leafBytes x) i × (i < length (leafBytes x)))
+  leaf-exactly i = (there, back)
+    where
+      m : ℕ
+      m = length (s .docids)
+
+      there : numbersOf r ≡ numbers 3 i → ShapeRight x × ((tree : Tree) × IsQuery x tree) × SoundLeaves (columnCount x) (leafBytes x) i × (i < length (leafBytes x))
+      there e =
+          ⊎-elim
+          (λ h. number-differs (h .1) (λ z. omega arith))
+          (λ h.
+          ⊎-elim
+          (λ g. number-differs (g .1) (λ z. omega arith))
+          (λ g.
+          let w = broken-first (columnCount x) (roomRefusal n m ∷ []) (numbers 0 m) 0 i (leafBytes x) (λ k d z. room-gives n m 3 k (λ y. omega arith) (λ y. omega arith) d z) (g .1) in
+          let q : w .0 ≡ i = omega (arith, w .1) in (
+            h .0,
+            g .0,
+            subst (SoundLeaves (columnCount x) (leafBytes x)) q (record { index = w .3 .0; sound = w .3 .1; inside = omega (arith, w .2); broken = λ _. w .4 }),
+            subst (λ (k : ℕ). k < length (leafBytes x)) q (w .2),
+          ))
+          (h .1))
+          (subst (FirstDue (refusals x n m) (numbers 0 m)) e (s .answered))
+
+      back : ShapeRight x × ((tree : Tree) × IsQuery x tree) × SoundLeaves (columnCount x) (leafBytes x) i × (i < length (leafBytes x)) → numbersOf r ≡ numbers 3 i
+      back h =
+          first-due-once (refusals x n m) (refusals-exclusive x n m) (numbers 0 m) (numbersOf r) (numbers 3 i) (s .answered)
+          (inr (h .0, inr (h .1, first-broken (columnCount x) (roomRefusal n m ∷ []) (numbers 0 m) 0 i i (leafBytes x) (h .2 .index) (omega arith) (h .2 .sound) (h .3) (h .2 .broken (h .3)))))

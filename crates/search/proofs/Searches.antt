@@ -8,9 +8,11 @@ use mathlib.Core.List.{List, [], _∷_, _++_}
 use lib.IntN.{ℤ}
 use lib.ListN.{length}
 use lib.Seq.{take-all}
+use Rattle.common.specs.Refusals.{numbers, FirstDue, roomRefusal}
 use Rattle.common.proofs.Cases.{false-not-true}
 use Rattle.offsets.proofs.Cuts.{length-cut}
 use Rattle.leaf.specs.Leaf.{Term, AreLeaves}
+use Rattle.leaf.specs.Answers.{leafRefusals}
 use Rattle.query.specs.Tree.{Link, Tree, leaf, joined}
 use Rattle.query.specs.declared.Reading.{Reading}
 use Rattle.query.specs.Reading.{Compiles}
@@ -21,7 +23,7 @@ use Rattle.chain.specs.Chains.{FilledLinks}
 use Rattle.evaluate.specs.Evaluate.{FilledTree}
 use Rattle.engine.specs.Run.{Ran}
 use Rattle.engine.proofs.Rooms.{fitted-all, length-fitted}
-use Rattle.search.specs.Search.{numbers, numbersOf, Input, columnNames, columnCount, leafBytes, ShapeRight, IsQuery, leafRefusals, roomRefusal, FirstDue, refusals, roomFor, Searched}
+use Rattle.search.specs.Search.{numbersOf, Input, columnNames, columnCount, leafBytes, ShapeRight, IsQuery, refusals, roomFor, Searched}
 use Rattle.search.specs.Checking.{SoundLeaves}
 use Rattle.search.specs.declared.Answer.{Answer}
 use Rattle.search.specs.declared.Answer.the-variants as answer
@@ -40,11 +42,11 @@ tree-filled (joined o a b) h = (tree-filled a (h .0), tree-filled b (h .1))
 abbrev pub Refused : ℕ → Answer → Answer → List ℤ → Type 0
 Refused n a r room = (r ≡ a) × (room ≡ zeros n)
 
--- a search in a room of `n` numbers answered `r` and left `room`; the test of its shape told `good`
-module _ (x : Input) (n : ℕ) (r : Answer) (room : List ℤ) (good : Bool) (told : (good ≡ true) ↔ ShapeRight x) where
+-- a search in a room of `n` numbers answered `r` and left `room`; the test of its shape gave `good`
+module _ (x : Input) (n : ℕ) (r : Answer) (room : List ℤ) (good : Bool) (test : (good ≡ true) ↔ ShapeRight x) where
   pub shape-refused : good ≡ false → Refused n answer.Shape r room → Searched x n r room
   shape-refused e a =
-      let h : ShapeRight x → ⊥ = λ s. false-not-true (sym e ∙ told .1 s) in
+      let h : ShapeRight x → ⊥ = λ s. false-not-true (sym e ∙ test .1 s) in
       record {
         docids = [];
         listed = λ tree index s q l. absurd (h s);
@@ -55,7 +57,7 @@ module _ (x : Input) (n : ℕ) (r : Answer) (room : List ℤ) (good : Bool) (tol
   -- the shape is right, and the query was read
   module _ (right : good ≡ true) (reading : Reading) (compiles : Compiles (columnNames x) (x .query) reading) where
     shape : ShapeRight x
-    shape = told .0 right
+    shape = test .0 right
 
     pub query-refused : reading .ok ≡ false → Refused n answer.Query r room → Searched x n r room
     query-refused e a =
@@ -63,25 +65,25 @@ module _ (x : Input) (n : ℕ) (r : Answer) (room : List ℤ) (good : Bool) (tol
         record {
           docids = [];
           listed = λ tree index s q l. absurd (h tree q);
-          answered = inr (λ f. f shape, inl (h, ap numbersOf (a .0)));
+          answered = inr (shape, inl (h, ap numbersOf (a .0)));
           left = a .1 ∙ sym (ap (roomFor n []) (a .0));
         }
 
     -- it is a query, and `i` leaves are sound
     module _ (ok : reading .ok ≡ true) (i : ℕ) (checked : SoundLeaves (length (x .name-ends)) (leafBytes x) i) where
       -- the shape and the query are right: the leaves decide, and then the room
-      behind-query : (need : ℕ) → FirstDue (leafRefusals x 0 (leafBytes x) ++ roomRefusal n need ∷ []) (numbers 0 need) (numbersOf r) → FirstDue (refusals x n need) (numbers 0 need) (numbersOf r)
-      behind-query need d = let q = compiles .accepted .0 ok in inr (λ f. f shape, inr (λ f. f (q .0) (q .1), d))
+      behind-query : (need : ℕ) → FirstDue (leafRefusals (columnCount x) 0 (leafBytes x) ++ roomRefusal n need ∷ []) (numbers 0 need) (numbersOf r) → FirstDue (refusals x n need) (numbers 0 need) (numbersOf r)
+      behind-query need d = inr (shape, inr (compiles .accepted .0 ok, d))
 
       pub leaf-refused : i < length (x .leaf-ends) → Refused n (answer.Leaf i) r room → Searched x n r room
       leaf-refused h a =
           let l = length-cut (x .leaves) (x .leaf-ends) in
           let b : i < length (leafBytes x) = omega arith in
-          let d = first-broken x (roomRefusal n 0 ∷ []) (numbers 0 0) 0 i i (leafBytes x) (checked .index) (omega arith) (checked .sound) b (checked .broken b) in
+          let d = first-broken (columnCount x) (roomRefusal n 0 ∷ []) (numbers 0 0) 0 i i (leafBytes x) (checked .index) (omega arith) (checked .sound) b (checked .broken b) in
           record {
             docids = [];
-            listed = λ tree index s q l. let k = leaf-at x (leafBytes x) index i l b in absurd (checked .broken b (k .0) (k .1));
-            answered = behind-query 0 (subst (FirstDue (leafRefusals x 0 (leafBytes x) ++ roomRefusal n 0 ∷ []) (numbers 0 0)) (sym (ap numbersOf (a .0))) d);
+            listed = λ tree index s q l. let k = leaf-at (columnCount x) (leafBytes x) index i l b in absurd (checked .broken b (k .0) (k .1));
+            answered = behind-query 0 (subst (FirstDue (leafRefusals (columnCount x) 0 (leafBytes x) ++ roomRefusal n 0 ∷ []) (numbers 0 0)) (sym (ap numbersOf (a .0))) d);
             left = a .1 ∙ sym (ap (roomFor n []) (a .0));
           }
 
@@ -102,7 +104,7 @@ module _ (x : Input) (n : ℕ) (r : Answer) (room : List ℤ) (good : Bool) (tol
             → FirstDue (refusals x n (length (run .docids))) (numbers 0 (length (run .docids))) (numbersOf r)
         behind-leaves d =
             behind-query (length (run .docids))
-            (none-broken x (roomRefusal n (length (run .docids)) ∷ []) (numbers 0 (length (run .docids))) 0 (leafBytes x) (checked .index) (numbersOf r) leaves d)
+            (none-broken (columnCount x) (roomRefusal n (length (run .docids)) ∷ []) (numbers 0 (length (run .docids))) 0 (leafBytes x) (checked .index) (numbersOf r) leaves d)
 
         -- the run kept the room's length
         kept : length before ≡ n
@@ -126,6 +128,6 @@ module _ (x : Input) (n : ℕ) (r : Answer) (room : List ℤ) (good : Bool) (tol
             record {
               docids = run .docids;
               listed = every;
-              answered = behind-leaves (inr (λ d. absurd (omega arith), ap numbersOf e ∙ ap (numbers 0) c));
+              answered = behind-leaves (inr (omega arith, ap numbersOf e ∙ ap (numbers 0) c));
               left = m ∙ run .left ∙ fitted-all n (run .docids) (omega arith) ∙ sym (ap (roomFor n (run .docids)) e);
             }

@@ -1,15 +1,16 @@
 -- What a search answers, for all inputs (document 01, "Numbers of the answers" and "When a row satisfies a query"). The
--- refusals stand in their order, and the first that is due is given; where none is due, the answer is the list of all
+-- refusals stand in their order, and the first that is due is given; where all are passed, the answer is the list of all
 -- docids that satisfy the query, and its length. Every refusal leaves the result room all zeros.
-use Prim.Native.Nat.{ℕ, suc, _≤_, _<_}
+use Prim.Native.Nat.{ℕ, _≤_}
 use mathlib.Core.Path.{_≡_}
-use mathlib.Core.Logic.{_⊎_}
 use mathlib.Core.List.{List, [], _∷_, _++_}
 use lib.IntN.{ℤ}
 use lib.ListN.{length}
+use Rattle.common.specs.Refusals.{Numbers, numbers, Refusal, FirstDue, shapeRefusal, roomRefusal}
 use Rattle.offsets.specs.Cut.{Cuts, cut}
 use Rattle.offsets.specs.Names.{Names}
-use Rattle.leaf.specs.Leaf.{Term, NoLeaf, AreLeaves}
+use Rattle.leaf.specs.Leaf.{Term, AreLeaves}
+use Rattle.leaf.specs.Answers.{leafRefusals}
 use Rattle.query.specs.Tree.{Tree}
 use Rattle.query.specs.Grammar.{Reads}
 use Rattle.meaning.specs.Listing.{Answers, roomWith, zeros}
@@ -18,31 +19,12 @@ use Rattle.search.specs.declared.Answer.the-variants as answer
 
 -- ---- document 01's numbers
 
-abbrev pub number : Answer → ℕ
-number (answer.Found n) = 0
-number answer.Shape = 1
-number answer.Query = 2
-number (answer.Leaf i) = 3
-number (answer.Room n) = 4
-
--- the number returned beside it
-abbrev pub beside : Answer → ℕ
-beside (answer.Found n) = n
-beside answer.Shape = 0
-beside answer.Query = 0
-beside (answer.Leaf i) = i
-beside (answer.Room n) = n
-
--- both
-pub record Numbers : Type 0 where
-  pub code : ℕ
-  pub value : ℕ
-
-abbrev pub numbers : ℕ → ℕ → Numbers
-numbers code value = record { code = code; value = value }
-
 abbrev pub numbersOf : Answer → Numbers
-numbersOf r = numbers (number r) (beside r)
+numbersOf (answer.Found n) = numbers 0 n
+numbersOf answer.Shape = numbers 1 0
+numbersOf answer.Query = numbers 2 0
+numbersOf (answer.Leaf i) = numbers 3 i
+numbersOf (answer.Room n) = numbers 4 n
 
 -- ---- what a search is handed
 
@@ -81,33 +63,24 @@ pub record ShapeRight (x : Input) : Type 0 where
 abbrev pub IsQuery : Input → Tree → Type 0
 IsQuery x tree = Reads (columnNames x) (x .query) tree
 
+-- the checks 1, 2 and 3 are passed: the shape is right, the query is this tree, and the leaves have these terms
+pub record Searchable (x : Input) : Type 0 where
+  pub shape : ShapeRight x
+  pub tree : Tree
+  pub is-query : IsQuery x tree
+  pub index : List (List Term)
+  pub are-leaves : AreLeaves (columnCount x) (leafBytes x) index
+
 -- ---- the refusals in their order
 
--- when a refusal is due, and the numbers that are given then
-pub record Refusal : Type 1 where
-  pub due : Type 0
-  pub given : Numbers
-
--- "the first such leaf, counted from 0, newest first"
-abbrev pub leafRefusals : Input → ℕ → List (List ℕ) → List Refusal
-leafRefusals x i [] = []
-leafRefusals x i (b ∷ bs) = record { due = NoLeaf (columnCount x) b; given = numbers 3 i } ∷ leafRefusals x (suc i) bs
-
--- "Number 4 is given exactly when the need is greater than the room's length."
-abbrev pub roomRefusal : ℕ → ℕ → Refusal
-roomRefusal room need = record { due = room < need; given = numbers 4 need }
+-- 2: the query is not in the language
+abbrev pub queryRefusal : Input → Refusal
+queryRefusal x = record { due = (tree : Tree) → IsQuery x tree → ⊥; passed = (tree : Tree) × IsQuery x tree; given = numbers 2 0 }
 
 -- "Search checks 1, 2, 3, 4 in that order."
 abbrev pub refusals : Input → ℕ → ℕ → List Refusal
 refusals x room need =
-    record { due = ShapeRight x → ⊥; given = numbers 1 0 }
-    ∷ record { due = (tree : Tree) → IsQuery x tree → ⊥; given = numbers 2 0 }
-    ∷ (leafRefusals x 0 (leafBytes x) ++ roomRefusal room need ∷ [])
-
--- the numbers `m` are those of the first refusal that is due; where none is, they are `accepted`
-abbrev pub FirstDue : List Refusal → Numbers → Numbers → Type 0
-FirstDue [] accepted m = m ≡ accepted
-FirstDue (f ∷ fs) accepted m = ((f .due) × (m ≡ f .given)) ⊎ (((f .due) → ⊥) × FirstDue fs accepted m)
+    shapeRefusal (ShapeRight x) ∷ queryRefusal x ∷ (leafRefusals (columnCount x) 0 (leafBytes x) ++ roomRefusal room need ∷ [])
 
 -- ---- the promise
 

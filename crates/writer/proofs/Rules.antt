@@ -1,5 +1,6 @@
--- The tests of the writer say document 01's rules, and so do its answers (`answers`).
-use Prim.Native.Nat.{ℕ, zero, suc, _^_, _≤_, _<_}
+-- The tests of the writer say document 01's rules, and so do its answers: each is the first refusal that is due
+-- (`write-is`, `write-once`), and what that comes to in the document's words (`answers`).
+use Prim.Native.Nat.{ℕ, zero, suc, _+_, _^_, _≤_, _<_}
 use native.Mathlib.Nat.{not-suc-le-zero, le-of-suc-le-suc}
 use native.Mathlib.Omega.{arith}
 use lib.IntN.{ℤ, pos, negsuc, natAbs}
@@ -7,14 +8,16 @@ use lib.Signed.{nonNeg}
 use mir.Val.{SFits}
 use mir.Syntax.{w64}
 use mathlib.Core.Path.{_≡_, refl, sym, ap, subst, _∙_}
-use mathlib.Core.Logic.{_↔_}
+use mathlib.Core.Logic.{_↔_, inl, inr}
 use mathlib.Core.Bool.{Bool, true, false}
-use mathlib.Core.List.{List, [], _∷_}
+use mathlib.Core.List.{List, [], _∷_, _++_}
 use lib.ListN.{length, getD, replicate}
 use lib.Dec.{T, ltb, leb}
 use borrow.Author.Tests.{ltb-true, ltb-false, leb-true, leb-false, lt-ltb, le-ltb, le-leb}
 use Rattle.common.specs.Pick.{pick, both, either}
 use Rattle.common.specs.Bytes.{within}
+use Rattle.common.specs.Refusals.{Numbers, numbers, Refusal, FirstDue, Exclusive, roomRefusal}
+use Rattle.common.proofs.Refusals.{first-due-once, exclusive-append, room-exclusive}
 use Rattle.common.proofs.Cases.{bool-case, pick-case, both-left, both-right, both-true, false-not-true}
 use Rattle.tokenizer.specs.Word.{wordsOf, maxWord}
 use Rattle.offsets.specs.Cut.{cuts, Cuts, cut}
@@ -22,7 +25,7 @@ use Rattle.offsets.proofs.Cuts.{cuts-rules, rules-cuts, length-cut}
 use Rattle.document.specs.Document.{StandsAt, documentLeaf}
 use Rattle.writer.specs.declared.Answer.{Answer}
 use Rattle.writer.specs.declared.Answer.the-variants.{Written, Shape, Overlong, Room}
-use Rattle.writer.specs.Answers.{number, beside, isDocid, docidOf, isDocument, DocumentShape, hasOverlong, firstOverlong, IsOverlong, AllShort, Writing, fitted, answerOf, held, roomOf, Answers}
+use Rattle.writer.specs.Answers.{numbersOf, isDocid, docidOf, isDocument, DocumentShape, hasOverlong, overlongRefusals, firstOverlong, IsOverlong, AllShort, Writing, fitted, needOf, refusals, WriteIs, answerOf, held, roomOf, Answers}
 use Rattle.writer.proofs.LeafWriting.{short-before}
 
 -- ---- the shape
@@ -133,47 +136,67 @@ all-short ts f =
     (λ t. let o = overlong-is ts (ltb-true (firstOverlong ts) (length ts) t) in absurd (omega (arith, o .long, f (o .word) (firstOverlong ts) (o .position) (o .stands))))
     (λ t. omega (arith, ltb-false (firstOverlong ts) (length ts) t, first-most ts))
 
+-- ---- answers with the same numbers are the same
+
+answer-with : ℕ → ℕ → Answer
+answer-with zero n = Written n
+answer-with (suc zero) n = Shape
+answer-with (suc (suc zero)) n = Shape
+answer-with (suc (suc (suc zero))) n = Shape
+answer-with (suc (suc (suc (suc zero)))) n = Room n
+answer-with (suc (suc (suc (suc (suc k))))) n = Overlong n
+
+with-numbers : (r : Answer) → answer-with (numbersOf r .number) (numbersOf r .second) ≡ r
+unfolding answer-with
+with-numbers (Written n) = refl
+with-numbers Shape = refl
+with-numbers (Overlong c) = refl
+with-numbers (Room n) = refl
+
+numbers-once : (r q : Answer) → numbersOf r ≡ numbersOf q → r ≡ q
+numbers-once r q e = sym (with-numbers r) ∙ ap (λ (m : Numbers). answer-with (m .number) (m .second)) e ∙ with-numbers q
+
 -- ---- the answers
 
 module _ (docid : ℤ) (s es : List ℕ) (room : ℕ) where
   answers-shape : (DocumentShape docid s es → ⊥) → Answers docid s es room Shape
   answers-shape n = record {
     shape = (λ e. n, λ _. refl);
-    overlong = λ c. (λ e. absurd (omega (arith, ap number e)), λ k. absurd (n (k .0)));
-    no-room = λ m. (λ e. absurd (omega (arith, ap number e)), λ k. absurd (n (k .0)));
-    written = λ m. (λ e. absurd (omega (arith, ap number e)), λ k. absurd (n (k .0)));
+    overlong = λ c. (λ e. absurd (omega (arith, ap (λ (q : Answer). numbersOf q .number) e)), λ k. absurd (n (k .0)));
+    no-room = λ m. (λ e. absurd (omega (arith, ap (λ (q : Answer). numbersOf q .number) e)), λ k. absurd (n (k .0)));
+    written = λ m. (λ e. absurd (omega (arith, ap (λ (q : Answer). numbersOf q .number) e)), λ k. absurd (n (k .0)));
   }
 
   module _ (h : DocumentShape docid s es) where
     answers-overlong : firstOverlong (cut s es) < length (cut s es) → Answers docid s es room (Overlong (firstOverlong (cut s es)))
     answers-overlong l = record {
-      shape = (λ e. absurd (omega (arith, ap number e)), λ n. absurd (n h));
+      shape = (λ e. absurd (omega (arith, ap (λ (q : Answer). numbersOf q .number) e)), λ n. absurd (n h));
       overlong = λ c. (
-        λ e. (h, subst (IsOverlong (cut s es)) (ap beside e) (overlong-is (cut s es) l)),
+        λ e. (h, subst (IsOverlong (cut s es)) (ap (λ (q : Answer). numbersOf q .second) e) (overlong-is (cut s es) l)),
         λ k. ap Overlong (is-overlong (cut s es) c (k .1) .0),
       );
-      no-room = λ m. (λ e. absurd (omega (arith, ap number e)), λ k. absurd (omega (arith, l, all-short (cut s es) (k .1))));
-      written = λ m. (λ e. absurd (omega (arith, ap number e)), λ k. absurd (omega (arith, l, all-short (cut s es) (k .1))));
+      no-room = λ m. (λ e. absurd (omega (arith, ap (λ (q : Answer). numbersOf q .number) e)), λ k. absurd (omega (arith, l, all-short (cut s es) (k .1))));
+      written = λ m. (λ e. absurd (omega (arith, ap (λ (q : Answer). numbersOf q .number) e)), λ k. absurd (omega (arith, l, all-short (cut s es) (k .1))));
     }
 
     module _ (a : firstOverlong (cut s es) ≡ length (cut s es)) where
       not-overlong : (c : ℕ) → IsOverlong (cut s es) c → ⊥
       not-overlong c o = let k = is-overlong (cut s es) c o in omega (arith, k .0, k .1)
 
-      answers-room : room < length (documentLeaf (docidOf docid) (cut s es)) → Answers docid s es room (Room (length (documentLeaf (docidOf docid) (cut s es))))
+      answers-room : room < needOf docid s es → Answers docid s es room (Room (needOf docid s es))
       answers-room l = record {
-        shape = (λ e. absurd (omega (arith, ap number e)), λ n. absurd (n h));
-        overlong = λ c. (λ e. absurd (omega (arith, ap number e)), λ k. absurd (not-overlong c (k .1)));
-        no-room = λ m. (λ e. (h, short-all (cut s es) a, sym (ap beside e), omega (arith, ap beside e)), λ k. ap Room (sym (k .2)));
-        written = λ m. (λ e. absurd (omega (arith, ap number e)), λ k. absurd (omega (arith, k .2, k .3)));
+        shape = (λ e. absurd (omega (arith, ap (λ (q : Answer). numbersOf q .number) e)), λ n. absurd (n h));
+        overlong = λ c. (λ e. absurd (omega (arith, ap (λ (q : Answer). numbersOf q .number) e)), λ k. absurd (not-overlong c (k .1)));
+        no-room = λ m. (λ e. (h, short-all (cut s es) a, sym (ap (λ (q : Answer). numbersOf q .second) e), omega (arith, ap (λ (q : Answer). numbersOf q .second) e)), λ k. ap Room (sym (k .2)));
+        written = λ m. (λ e. absurd (omega (arith, ap (λ (q : Answer). numbersOf q .number) e)), λ k. absurd (omega (arith, k .2, k .3)));
       }
 
-      answers-written : length (documentLeaf (docidOf docid) (cut s es)) ≤ room → Answers docid s es room (Written (length (documentLeaf (docidOf docid) (cut s es))))
+      answers-written : needOf docid s es ≤ room → Answers docid s es room (Written (needOf docid s es))
       answers-written l = record {
-        shape = (λ e. absurd (omega (arith, ap number e)), λ n. absurd (n h));
-        overlong = λ c. (λ e. absurd (omega (arith, ap number e)), λ k. absurd (not-overlong c (k .1)));
-        no-room = λ m. (λ e. absurd (omega (arith, ap number e)), λ k. absurd (omega (arith, k .2, k .3)));
-        written = λ m. (λ e. (h, short-all (cut s es) a, sym (ap beside e), omega (arith, ap beside e)), λ k. ap Written (sym (k .2)));
+        shape = (λ e. absurd (omega (arith, ap (λ (q : Answer). numbersOf q .number) e)), λ n. absurd (n h));
+        overlong = λ c. (λ e. absurd (omega (arith, ap (λ (q : Answer). numbersOf q .number) e)), λ k. absurd (not-overlong c (k .1)));
+        no-room = λ m. (λ e. absurd (omega (arith, ap (λ (q : Answer). numbersOf q .number) e)), λ k. absurd (omega (arith, k .2, k .3)));
+        written = λ m. (λ e. (h, short-all (cut s es) a, sym (ap (λ (q : Answer). numbersOf q .second) e), omega (arith, ap (λ (q : Answer). numbersOf q .second) e)), λ k. ap Written (sym (k .2)));
       }
 
   -- the answer says which rule holds
@@ -185,10 +208,62 @@ module _ (docid : ℤ) (s es : List ℕ) (room : ℕ) where
       bool-case (ltb (firstOverlong (cut s es)) (length es))
       (λ u. rw (t, u) (answers-overlong h (omega (arith, ltb-true (firstOverlong (cut s es)) (length es) u))))
       (λ u. let a : firstOverlong (cut s es) ≡ length (cut s es) = omega (arith, ltb-false (firstOverlong (cut s es)) (length es) u, first-most (cut s es)) in
-      bool-case (leb (length (documentLeaf (docidOf docid) (cut s es))) room)
-      (λ v. rw (t, u, v) (answers-written h a (leb-true (length (documentLeaf (docidOf docid) (cut s es))) room v)))
-      (λ v. rw (t, u, v) (answers-room h a (leb-false (length (documentLeaf (docidOf docid) (cut s es))) room v)))))
+      bool-case (leb (needOf docid s es) room)
+      (λ v. rw (t, u, v) (answers-written h a (leb-true (needOf docid s es) room v)))
+      (λ v. rw (t, u, v) (answers-room h a (leb-false (needOf docid s es) room v)))))
       (λ t. rw t (answers-shape (λ h. false-not-true (sym t ∙ rules-shape docid s es h))))
+
+-- ---- the first refusal that is due
+
+module _ (fs : List Refusal) (accepted : Numbers) where
+  -- no column has a long word: the refusals behind decide
+  none-long : (k : ℕ) (ts : List (List ℕ)) (m : Numbers) → firstOverlong ts ≡ length ts → FirstDue fs accepted m → FirstDue (overlongRefusals k ts ++ fs) accepted m
+  none-long k [] m e d = d
+  none-long k (t ∷ ts) m e d =
+      bool-case (hasOverlong (wordsOf t))
+      (λ b. absurd (omega (arith, subst (λ x. pick x 0 (suc (firstOverlong ts)) ≡ suc (length ts)) b e)))
+      (λ b. inr (none-short (wordsOf t) b, none-long (suc k) ts m (omega (arith, subst (λ x. pick x 0 (suc (firstOverlong ts)) ≡ suc (length ts)) b e)) d))
+
+  -- column `j` is the first that has one
+  first-long : (k j : ℕ) (ts : List (List ℕ)) → j ≡ k + firstOverlong ts → firstOverlong ts < length ts → FirstDue (overlongRefusals k ts ++ fs) accepted (numbers 5 j)
+  first-long k j [] e h = absurd (not-suc-le-zero h)
+  first-long k j (t ∷ ts) e h =
+      bool-case (hasOverlong (wordsOf t))
+      (λ b.
+      let r = has-word (wordsOf t) b in
+      let q : j ≡ k = omega (arith, ap (λ x. pick x 0 (suc (firstOverlong ts))) b) in
+      inl (record { position = r .0; inside = r .1; long = r .2 }, ap (numbers 5) q))
+      (λ b.
+      let q : firstOverlong (t ∷ ts) ≡ suc (firstOverlong ts) = ap (λ x. pick x 0 (suc (firstOverlong ts))) b in
+      inr (none-short (wordsOf t) b, first-long (suc k) j ts (omega arith) (omega arith)))
+
+overlong-exclusive : (k : ℕ) (ts : List (List ℕ)) → Exclusive (overlongRefusals k ts)
+overlong-exclusive k [] = tt
+overlong-exclusive k (t ∷ ts) = (λ d p. let n = p (d .position) (d .inside) in omega (arith, d .long), overlong-exclusive (suc k) ts)
+
+module _ (docid : ℤ) (s es : List ℕ) (room : ℕ) where
+  pub refusals-exclusive : Exclusive (refusals docid s es room)
+  refusals-exclusive =
+      (λ n h. n h, exclusive-append (overlongRefusals 0 (cut s es)) (roomRefusal room (needOf docid s es) ∷ []) (overlong-exclusive 0 (cut s es)) (room-exclusive, tt))
+
+  -- the answer of the definition is the first that is due
+  pub write-is : WriteIs docid s es room (answerOf docid s es room)
+  write-is =
+      let n = length-cut s es in
+      bool-case (isDocument docid s es)
+      (λ t. let h = shape-rules docid s es t in
+      bool-case (ltb (firstOverlong (cut s es)) (length es))
+      (λ u. rw (t, u) (inr (h, first-long _ _ 0 (firstOverlong (cut s es)) (cut s es) (omega arith) (omega (arith, ltb-true (firstOverlong (cut s es)) (length es) u)))))
+      (λ u. let a : firstOverlong (cut s es) ≡ length (cut s es) = omega (arith, ltb-false (firstOverlong (cut s es)) (length es) u, first-most (cut s es)) in
+      bool-case (leb (needOf docid s es) room)
+      (λ v. rw (t, u, v) (inr (h, none-long _ _ 0 (cut s es) _ a (inr (leb-true (needOf docid s es) room v, refl)))))
+      (λ v. rw (t, u, v) (inr (h, none-long _ _ 0 (cut s es) _ a (inl (leb-false (needOf docid s es) room v, refl)))))))
+      (λ t. rw t (inl (λ h. false-not-true (sym t ∙ rules-shape docid s es h), refl)))
+
+  -- and no other answer is
+  pub write-once : (a : Answer) → WriteIs docid s es room a → answerOf docid s es room ≡ a
+  write-once a c =
+      numbers-once (answerOf docid s es room) a (first-due-once (refusals docid s es room) refusals-exclusive (numbers 0 (needOf docid s es)) _ _ write-is c)
 
 -- ---- what the function returns
 
@@ -213,18 +288,24 @@ docid-small (negsuc d) f = omega arith
 
 module _ (docid : ℤ) (s es : List ℕ) (size : ℕ) where
   -- what the contract asks of an answer and of the room
-  abbrev Told : Answer → List ℕ → Type 0
-  Told r after = (r ≡ answerOf docid s es size) × ((after ≡ roomOf docid s es size) × Answers docid s es size r)
+  abbrev Promise : Answer → List ℕ → Type 0
+  Promise r after = (r ≡ answerOf docid s es size) × ((after ≡ roomOf docid s es size) × ((a : Answer) → (r ≡ a) ↔ WriteIs docid s es size a))
 
-  told : (r : Answer) (after : List ℕ) → r ≡ answerOf docid s es size → after ≡ held size (documentLeaf (docidOf docid) (cut s es)) r → Told r after
-  told r after e q = (e, (q ∙ ap (held size (documentLeaf (docidOf docid) (cut s es))) e, subst (Answers docid s es size) (sym e) (answers docid s es size)))
+  kept : (r : Answer) (after : List ℕ) → r ≡ answerOf docid s es size → after ≡ held size (documentLeaf (docidOf docid) (cut s es)) r → Promise r after
+  kept r after e q = (
+    e,
+    (
+      q ∙ ap (held size (documentLeaf (docidOf docid) (cut s es))) e,
+      λ a. (λ p. subst (WriteIs docid s es size) (sym e ∙ p) (write-is docid s es size), λ c. e ∙ write-once docid s es size a c),
+    ),
+  )
 
-  pub told-shape : isDocument docid s es ≡ false → (after : List ℕ) → after ≡ replicate size 0 → Told Shape after
-  told-shape t after z = told Shape after (rw t refl) z
+  pub kept-shape : isDocument docid s es ≡ false → (after : List ℕ) → after ≡ replicate size 0 → Promise Shape after
+  kept-shape t after z = kept Shape after (rw t refl) z
 
   module _ (t : isDocument docid s es ≡ true) (n : ℕ) (e : n ≡ firstOverlong (cut s es)) where
-    pub told-overlong : n < length es → (after : List ℕ) → after ≡ replicate size 0 → Told (Overlong n) after
-    told-overlong h after z = told (Overlong n) after (rw (t, lt-ltb (firstOverlong (cut s es)) (length es) (omega arith)) (ap Overlong e)) z
+    pub kept-overlong : n < length es → (after : List ℕ) → after ≡ replicate size 0 → Promise (Overlong n) after
+    kept-overlong h after z = kept (Overlong n) after (rw (t, lt-ltb (firstOverlong (cut s es)) (length es) (omega arith)) (ap Overlong e)) z
 
     module _ (h : length es ≤ n) where
       pub writing : SFits w64 docid → (d : ℕ) → d ≡ docidOf docid → Writing d s es
@@ -239,12 +320,12 @@ module _ (docid : ℤ) (s es : List ℕ) (size : ℕ) where
             short = omega (arith, first-most (cut s es), length-cut s es);
           }
 
-      pub told-leaf : (d : ℕ) → d ≡ docidOf docid → (m : ℕ) → m ≡ size → (r : Answer) (after : List ℕ)
-          → (r ≡ fitted (length (documentLeaf d (cut s es))) m) × (after ≡ held m (documentLeaf d (cut s es)) r) → Told r after
-      told-leaf d q m k r after w =
-          told r after
+      pub kept-leaf : (d : ℕ) → d ≡ docidOf docid → (m : ℕ) → m ≡ size → (r : Answer) (after : List ℕ)
+          → (r ≡ fitted (length (documentLeaf d (cut s es))) m) × (after ≡ held m (documentLeaf d (cut s es)) r) → Promise r after
+      kept-leaf d q m k r after w =
+          kept r after
           (w .0
           ∙ ap (λ x. fitted (length (documentLeaf x (cut s es))) m) q
-          ∙ ap (fitted (length (documentLeaf (docidOf docid) (cut s es)))) k
+          ∙ ap (fitted (needOf docid s es)) k
           ∙ sym (rw (t, le-ltb (firstOverlong (cut s es)) (length es) (omega arith)) refl))
           (w .1 ∙ ap (λ x. held m (documentLeaf x (cut s es)) r) q ∙ ap (λ x. held x (documentLeaf (docidOf docid) (cut s es)) r) k)

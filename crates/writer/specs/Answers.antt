@@ -10,6 +10,7 @@ use lib.ListN.{length, getD, replicate}
 use lib.Dec.{ltb, leb}
 use Rattle.common.specs.Pick.{pick, both, either}
 use Rattle.common.specs.Bytes.{within}
+use Rattle.common.specs.Refusals.{Numbers, numbers, Refusal, FirstDue, shapeRefusal, roomRefusal}
 use Rattle.tokenizer.specs.Word.{wordsOf, maxWord}
 use Rattle.offsets.specs.Cut.{cuts, Cuts, cut}
 use Rattle.document.specs.Document.{StandsAt, documentLeaf, maxColumns, maxDocument}
@@ -18,18 +19,11 @@ use Rattle.writer.specs.declared.Answer.the-variants.{Written, Shape, Ov
 
 -- ---- document 01's numbers
 
-abbrev pub number : Answer → ℕ
-number (Written n) = 0
-number Shape = 1
-number (Room n) = 4
-number (Overlong c) = 5
-
--- the number returned beside it
-abbrev pub beside : Answer → ℕ
-beside (Written n) = n
-beside Shape = 0
-beside (Room n) = n
-beside (Overlong c) = c
+abbrev pub numbersOf : Answer → Numbers
+numbersOf (Written n) = numbers 0 n
+numbersOf Shape = numbers 1 0
+numbersOf (Room n) = numbers 4 n
+numbersOf (Overlong c) = numbers 5 c
 
 -- ---- 1: the shape
 
@@ -56,7 +50,22 @@ pub record DocumentShape (docid : ℤ) (s es : List ℕ) : Type 0 where
 
 -- ---- 5: a word over 64 bytes
 
--- whether one of the words is over 64 bytes
+-- a word of the text is over 64 bytes
+pub record LongWord (text : List ℕ) : Type 0 where
+  pub position : ℕ
+  pub inside : position < length (wordsOf text)
+  pub long : maxWord < length (getD (wordsOf text) position [])
+
+-- none is
+abbrev pub ShortWords : List ℕ → Type 0
+ShortWords text = (p : ℕ) → p < length (wordsOf text) → length (getD (wordsOf text) p []) ≤ maxWord
+
+-- "the first column that has one": those from column `c` on
+abbrev pub overlongRefusals : ℕ → List (List ℕ) → List Refusal
+overlongRefusals c [] = []
+overlongRefusals c (t ∷ ts) = record { due = LongWord t; passed = ShortWords t; given = numbers 5 c } ∷ overlongRefusals (suc c) ts
+
+-- whether one of the words is over 64 bytes, as the writer tests it
 abbrev pub hasOverlong : List (List ℕ) → Bool
 hasOverlong [] = false
 hasOverlong (w ∷ ws) = either (ltb maxWord (length w)) (hasOverlong ws)
@@ -66,7 +75,7 @@ abbrev pub firstOverlong : List (List ℕ) → ℕ
 firstOverlong [] = 0
 firstOverlong (t ∷ ts) = pick (hasOverlong (wordsOf t)) 0 (suc (firstOverlong ts))
 
--- column `c` is the first that has a word over 64 bytes
+-- the same in the words of a document: column `c` is the first that has a word over 64 bytes
 pub record IsOverlong (texts : List (List ℕ)) (c : ℕ) : Type 0 where
   pub word : List ℕ
   pub position : ℕ
@@ -92,13 +101,27 @@ pub record Writing (docid : ℕ) (s es : List ℕ) : Type 0 where
 abbrev pub fitted : ℕ → ℕ → Answer
 fitted need room = pick (leb need room) (Written need) (Room need)
 
--- ---- the answer, with a room of `room` bytes
+-- ---- the claim, with a room of `room` bytes
+
+-- how many bytes the leaf takes
+abbrev pub needOf : ℤ → List ℕ → List ℕ → ℕ
+needOf docid s es = length (documentLeaf (docidOf docid) (cut s es))
+
+-- "the writer 1, 5, 4"
+abbrev pub refusals : ℤ → List ℕ → List ℕ → ℕ → List Refusal
+refusals docid s es room = shapeRefusal (DocumentShape docid s es) ∷ (overlongRefusals 0 (cut s es) ++ roomRefusal room (needOf docid s es) ∷ [])
+
+-- what an answer claims
+abbrev pub WriteIs : ℤ → List ℕ → List ℕ → ℕ → Answer → Type 0
+WriteIs docid s es room r = FirstDue (refusals docid s es room) (numbers 0 (needOf docid s es)) (numbersOf r)
+
+-- ---- the answer, as the writer comes to it
 
 abbrev pub answerOf : ℤ → List ℕ → List ℕ → ℕ → Answer
 answerOf docid s es room =
     pick (isDocument docid s es)
     (pick (ltb (firstOverlong (cut s es)) (length es)) (Overlong (firstOverlong (cut s es)))
-    (fitted (length (documentLeaf (docidOf docid) (cut s es))) room))
+    (fitted (needOf docid s es) room))
     Shape
 
 -- what the room holds after an answer
@@ -116,5 +139,5 @@ roomOf docid s es room = held room (documentLeaf (docidOf docid) (cut s es)) (an
 pub record Answers (docid : ℤ) (s es : List ℕ) (room : ℕ) (r : Answer) : Type 0 where
   pub shape : (r ≡ Shape) ↔ (DocumentShape docid s es → ⊥)
   pub overlong : (c : ℕ) → (r ≡ Overlong c) ↔ (DocumentShape docid s es × IsOverlong (cut s es) c)
-  pub no-room : (n : ℕ) → (r ≡ Room n) ↔ (DocumentShape docid s es × AllShort (cut s es) × (n ≡ length (documentLeaf (docidOf docid) (cut s es))) × (room < n))
-  pub written : (n : ℕ) → (r ≡ Written n) ↔ (DocumentShape docid s es × AllShort (cut s es) × (n ≡ length (documentLeaf (docidOf docid) (cut s es))) × (n ≤ room))
+  pub no-room : (n : ℕ) → (r ≡ Room n) ↔ (DocumentShape docid s es × AllShort (cut s es) × (n ≡ needOf docid s es) × (room < n))
+  pub written : (n : ℕ) → (r ≡ Written n) ↔ (DocumentShape docid s es × AllShort (cut s es) × (n ≡ needOf docid s es) × (n ≤ room))

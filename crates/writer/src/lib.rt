@@ -7,11 +7,12 @@ mod words;
 
 use tokenizer::Word;
 ghost use mathlib.Core.Path.{_≡_};
+ghost use mathlib.Core.Logic.{_↔_};
 ghost use lib.ListN.{length, replicate};
 ghost use Rattle.tokenizer.specs.Word.{wordsOf};
 ghost use Rattle.offsets.specs.Cut.{cut};
 ghost use Rattle.document.specs.Document.{documentLeaf};
-ghost use Rattle.writer.specs.Answers.{isDocument, hasOverlong, firstOverlong, Writing, fitted, answerOf, held, roomOf, Answers};
+ghost use Rattle.writer.specs.Answers.{isDocument, hasOverlong, firstOverlong, Writing, fitted, WriteIs, answerOf, held, roomOf};
 
 // A document has at most 4,096 bytes over all columns; a word takes at least one, so there are no more words.
 pub const MAX_DOCUMENT: usize = 4096;
@@ -116,7 +117,7 @@ fn write_leaf(docid: u64, texts: &[u8], ends: &[u32], room: &mut [u8]) -> Answer
 pub fn write(docid: i64, texts: &[u8], ends: &[u32], room: &mut [u8]) -> Answer
     ensures answer { λ r. ⌜ r ≡ answerOf docid (now (texts .entry)) (now (ends .entry)) (length (now (room .entry))) ⌝ }
     ensures holds { λ _. ⌜ now (room .exit) ≡ roomOf docid (now (texts .entry)) (now (ends .entry)) (length (now (room .entry))) ⌝ }
-    ensures rules { λ r. ⌜ Answers docid (now (texts .entry)) (now (ends .entry)) (length (now (room .entry))) r ⌝ }
+    ensures exact { λ r. ⌜ ((a : Answer) → (r ≡ a) ↔ WriteIs docid (now (texts .entry)) (now (ends .entry)) (length (now (room .entry))) a) ⌝ }
 {
     clear(room);
     if !is_document(docid, texts, ends) {

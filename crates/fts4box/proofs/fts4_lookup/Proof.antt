@@ -1,15 +1,16 @@
 -- `fts4box::fts4_lookup` meets its contract: the answer is that of `lookup::find_list`.
-use mathlib.Core.Path.{refl}
+use mathlib.Core.Path.{refl, ap₂}
 use Prim.Native.Nat.{_-_}
 use borrow.Author.Needs.{needs}
+use Rattle.common.specs.Refusals.{numbers}
 use Rattle.fts4box.proofs.fts4_lookup.Statement.{statement}
 use Rattle.fts4box.proofs.fts4_lookup.Tie as tie
 
 find-list-requires : tie.Need-find-list-requires
 find-list-requires c κs = search needs
 
-word-beside-requires : tie.Need-word-beside-requires
-word-beside-requires c κs = search needs
+word-second-requires : tie.Need-word-second-requires
+word-second-requires c κs = search needs
 
 word-start-requires : tie.Need-word-start-requires
 word-start-requires c κs = search needs
@@ -22,8 +23,7 @@ returns c =
     record {
       answer = c .before .before .before .find-list .result;
       right = c .before .before .before .find-list .ensures (c .before .before .before .find-list .result) .0 refl;
-      number-is = c .word-number .ensures;
-      second-is = c .before .before .word-beside .ensures;
+      numbers-are = ap₂ numbers (c .word-number .ensures) (c .before .before .word-second .ensures);
       start-is = c .before .word-start .ensures;
     }
 
@@ -32,7 +32,7 @@ fts4-lookup-spec =
     tie.close
     (tie.spec
     find-list-requires
-    word-beside-requires
+    word-second-requires
     word-start-requires
     word-number-requires
     returns)

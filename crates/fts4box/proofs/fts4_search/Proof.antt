@@ -1,5 +1,7 @@
 -- `fts4box::fts4_search` meets its contract: the answer and the room are those of `search::search`.
+use mathlib.Core.Path.{ap₂}
 use borrow.Author.Needs.{needs}
+use Rattle.common.specs.Refusals.{numbers}
 use Rattle.fts4box.proofs.fts4_search.Statement.{statement}
 use Rattle.fts4box.proofs.fts4_search.Tie as tie
 
@@ -20,8 +22,7 @@ returns c =
     record {
       answer = c .before .before .before .search .result;
       right = c .before .before .before .search .ensures;
-      number-is = c .search-number .ensures;
-      second-is = c .before .search-second .ensures;
+      numbers-are = ap₂ numbers (c .search-number .ensures) (c .before .search-second .ensures);
     }
 
 pub fts4-search-spec : {M : Type 1} → statement M

@@ -1,9 +1,9 @@
 -- `fts4box::fts4_write` meets its contract: the answer and the room are those of `writer::write`.
-use mathlib.Core.Path.{subst}
+use mathlib.Core.Path.{_≡_, refl, ap₂, subst}
 use lib.IntN.{ℤ}
 use mir.Facts.{toZ-ofZ}
+use Rattle.common.specs.Refusals.{numbers}
 use Rattle.writer.specs.Answers as writer
-use mathlib.Core.Path.{_≡_}
 use borrow.Author.Needs.{needs}
 use lib.ListN.{length}
 use Rattle.fts4box.proofs.fts4_write.Statement.{statement}
@@ -29,13 +29,12 @@ returns c =
     record {
       answer = w .result;
       right =
-          subst (λ (z : ℤ). writer.Answers z (a .texts .now) (a .ends .now) (length (a .room .now)) (w .result)) same (w .ensures .1 .1);
+          subst (λ (z : ℤ). writer.WriteIs z (a .texts .now) (a .ends .now) (length (a .room .now)) (w .result)) same (w .ensures .1 .1 (w .result) .0 refl);
       answer-is =
           subst (λ (z : ℤ). w .result ≡ writer.answerOf z (a .texts .now) (a .ends .now) (length (a .room .now))) same (w .ensures .0);
       room-is =
           subst (λ (z : ℤ). w .last .1 .1 .1 .0 ≡ writer.roomOf z (a .texts .now) (a .ends .now) (length (a .room .now))) same (w .ensures .1 .0);
-      number-is = c .write-number .ensures;
-      second-is = c .before .write-second .ensures;
+      numbers-are = ap₂ numbers (c .write-number .ensures) (c .before .write-second .ensures);
     }
 
 pub fts4-write-spec : {M : Type 1} → statement M

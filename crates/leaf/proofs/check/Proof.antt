@@ -1,10 +1,10 @@
--- `check` meets its contract: each way out is a case of `checkLeaf`, which says what the content is.
+-- `check` meets its contract: each way out is a case of `checkLeaf`, which is the answer whose claim holds.
 use Prim.Native.Nat.{ℕ}
 use native.Mathlib.Omega.{arith}
 use mathlib.Core.List.{List}
 use borrow.Author.Needs.{needs}
 use Rattle.leaf.specs.Answers.{CheckShape}
-use Rattle.leaf.proofs.Laws.{checked, no-columns, many-columns, too-long, no-words, not-whole, whole}
+use Rattle.leaf.proofs.Checks.{checked, no-columns, many-columns, too-long, no-words, not-whole, whole}
 use Rattle.leaf.proofs.check.Statement.{statement}
 use Rattle.leaf.proofs.check.Tie as tie
 

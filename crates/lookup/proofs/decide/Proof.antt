@@ -1,8 +1,8 @@
 -- `decide` meets its contract: the newer leaf's entry, or that it has none and what the older says.
 use mathlib.Core.Path.{subst}
 use borrow.Author.Needs.{needs}
-use Rattle.lookup.specs.Entries.{EntryTold}
-use Rattle.lookup.proofs.EntryLaws.{told-no-entry}
+use Rattle.lookup.specs.Entries.{EntryFound}
+use Rattle.lookup.proofs.EntryLaws.{found-no-entry}
 use Rattle.lookup.proofs.decide.Statement.{statement}
 use Rattle.lookup.proofs.decide.Tie as tie
 
@@ -16,12 +16,12 @@ sub-t11 : tie.Need-sub-t11
 sub-t11 c =
     let a = c .before .before .before .before .before .before .before .args in
     let p = c .before .before .before .before .before .before .before .pre .1 in
-    subst (EntryTold (p .0) (a .word .now) (a .docid)) (c .before .start .given .1) (c .before .before .before .entry-in .ensures (p .0) (p .1)) .0
+    subst (EntryFound (p .0) (a .word .now) (a .docid)) (c .before .start .given .1) (c .before .before .before .entry-in .ensures (p .0) (p .1)) .0
 
 returns : tie.Need-returns
 returns c =
     let a = c .before .before .before .before .before .before .before .args in
-    λ ts us g. subst (EntryTold ts (a .word .now) (a .docid)) (c .before .start .given .1) (c .before .before .before .entry-in .ensures ts (g .0)) .1
+    λ ts us g. subst (EntryFound ts (a .word .now) (a .docid)) (c .before .start .given .1) (c .before .before .before .entry-in .ensures ts (g .0)) .1
 
 entry-in-requires-2 : tie.Need-entry-in-requires-2
 entry-in-requires-2 c κs = search needs
@@ -33,22 +33,22 @@ returns-2 : tie.Need-returns-2
 returns-2 c =
     let a = c .before .before .before .before .before .before .before .args in
     λ ts us g. (
-      told-no-entry ts (a .word .now) (a .docid) (c .before .before .before .entry-in .result) (c .before .before .match .keys2) (c .before .before .before .entry-in .ensures ts (g .0)),
-      told-no-entry us (a .word .now) (a .docid) (c .before .entry-in2 .result) (c .match2 .keys2) (c .before .entry-in2 .ensures us (g .1)),
+      found-no-entry ts (a .word .now) (a .docid) (c .before .before .before .entry-in .result) (c .before .before .match .keys2) (c .before .before .before .entry-in .ensures ts (g .0)),
+      found-no-entry us (a .word .now) (a .docid) (c .before .entry-in2 .result) (c .match2 .keys2) (c .before .entry-in2 .ensures us (g .1)),
     )
 
 sub-t13 : tie.Need-sub-t13
 sub-t13 c =
     let a = c .before .before .before .before .before .before .before .before .before .args in
     let p = c .before .before .before .before .before .before .before .before .before .pre .2 in
-    subst (EntryTold (p .0) (a .word .now) (a .docid)) (c .before .start2 .given .1) (c .before .before .before .entry-in2 .ensures (p .0) (p .1)) .0
+    subst (EntryFound (p .0) (a .word .now) (a .docid)) (c .before .start2 .given .1) (c .before .before .before .entry-in2 .ensures (p .0) (p .1)) .0
 
 returns-3 : tie.Need-returns-3
 returns-3 c =
     let a = c .before .before .before .before .before .before .before .before .before .args in
     λ ts us g. (
-      told-no-entry ts (a .word .now) (a .docid) (c .before .before .before .before .before .entry-in .result) (c .before .before .before .before .match .keys2) (c .before .before .before .before .before .entry-in .ensures ts (g .0)),
-      subst (EntryTold us (a .word .now) (a .docid)) (c .before .start2 .given .1) (c .before .before .before .entry-in2 .ensures us (g .1)) .1,
+      found-no-entry ts (a .word .now) (a .docid) (c .before .before .before .before .before .entry-in .result) (c .before .before .before .before .match .keys2) (c .before .before .before .before .before .entry-in .ensures ts (g .0)),
+      subst (EntryFound us (a .word .now) (a .docid)) (c .before .start2 .given .1) (c .before .before .before .entry-in2 .ensures us (g .1)) .1,
     )
 
 pub decide-spec : {M : Type 1} → statement M

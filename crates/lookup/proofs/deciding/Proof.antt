@@ -1,9 +1,10 @@
 -- `deciding` meets its contract: the part and the numbers are those of the answer that `find_entry` gives.
 use native.Mathlib.Omega.{arith}
-use mathlib.Core.Path.{refl, sym, ap, subst}
+use mathlib.Core.Path.{refl, sym, ap, subst, ap₂}
 use lib.IntN.{ℤ}
 use borrow.Author.Needs.{needs}
 use mir.Facts.{toZ-ofZ}
+use Rattle.common.specs.Refusals.{numbers}
 use Rattle.lookup.specs.Entries.{DecidingIs, entryPart}
 use Rattle.lookup.proofs.EntryLaws.{newer-inside, older-inside, none-decides}
 use Rattle.lookup.proofs.deciding.Statement.{statement}
@@ -15,8 +16,8 @@ find-entry-requires c κs = search needs
 entry-number-requires : tie.Need-entry-number-requires
 entry-number-requires c κs = search needs
 
-entry-beside-requires : tie.Need-entry-beside-requires
-entry-beside-requires c κs = search needs
+entry-second-requires : tie.Need-entry-second-requires
+entry-second-requires c κs = search needs
 
 enum-known-answer : tie.Need-enum-known-answer
 enum-known-answer c = search needs
@@ -90,8 +91,7 @@ returns c =
       answer = r;
       right = d;
       part-is = sym (ap (entryPart (a .newer .now) (a .older .now)) (c .before .before .answer .given .1));
-      number-is = c .before .before .before .before .before .entry-number .ensures;
-      beside-is = c .before .before .before .before .entry-beside .ensures;
+      numbers-are = ap₂ numbers (c .before .before .before .before .before .entry-number .ensures) (c .before .before .before .before .entry-second .ensures);
     }
 
 returns-2 : tie.Need-returns-2
@@ -103,8 +103,7 @@ returns-2 c =
       answer = r;
       right = d;
       part-is = sym (ap (entryPart (a .newer .now) (a .older .now)) (c .before .before .answer2 .given .1));
-      number-is = c .before .before .before .before .before .entry-number .ensures;
-      beside-is = c .before .before .before .before .entry-beside .ensures;
+      numbers-are = ap₂ numbers (c .before .before .before .before .before .entry-number .ensures) (c .before .before .before .before .entry-second .ensures);
     }
 
 returns-3 : tie.Need-returns-3
@@ -116,8 +115,7 @@ returns-3 c =
       answer = r;
       right = d;
       part-is = none-decides (a .newer .now) (a .older .now) r (c .before .match .keys3);
-      number-is = c .before .before .before .entry-number .ensures;
-      beside-is = c .before .before .entry-beside .ensures;
+      numbers-are = ap₂ numbers (c .before .before .before .entry-number .ensures) (c .before .before .entry-second .ensures);
     }
 
 pub deciding-spec : {M : Type 1} → statement M
@@ -126,7 +124,7 @@ deciding-spec =
     (tie.spec
     find-entry-requires
     entry-number-requires
-    entry-beside-requires
+    entry-second-requires
     enum-known-answer
     add-end
     sub-result

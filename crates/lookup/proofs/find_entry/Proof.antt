@@ -8,7 +8,7 @@ use mir.Facts.{toZ-ofZ}
 use Rattle.common.proofs.Cases.{false-not-true}
 use Rattle.leaf.specs.Answers.{CheckShape}
 use Rattle.lookup.specs.Entries.{DecidingShape, Decides}
-use Rattle.lookup.proofs.EntryLaws.{unsigned, refused-no-leaf, accepted-leaf, decides-is, deciding-exact}
+use Rattle.lookup.proofs.EntryLaws.{unsigned, refused-no-leaf, accepted-leaf, decides-claim, deciding-exact}
 use Rattle.lookup.proofs.find_entry.Statement.{statement}
 use Rattle.lookup.proofs.find_entry.Tie as tie
 
@@ -35,7 +35,7 @@ returns-2 c =
     let a = c .before .before .before .before .before .before .before .args in
     let h = subst (DecidingShape (a .columns) (a .newer .now) (a .older .now) (a .word .now)) (toZ-ofZ (c .before .before .before .before .before .before .before .fits .docid)) (c .before .before .before .entry-shape .ensures .0 (not-false _ (c .before .before .if1 .left))) in
     let n : CheckShape (a .columns) (a .newer .now) = record { some = h .some; few = h .few; size = omega (arith, h .size) } in
-    deciding-exact (a .columns) (a .newer .now) (a .older .now) (a .word .now) (a .docid) (h, refused-no-leaf (a .columns) (a .newer .now) (c .before .check .result) n (c .before .check .ensures .1 .1 .0) (c .match .keys2))
+    deciding-exact (a .columns) (a .newer .now) (a .older .now) (a .word .now) (a .docid) (h, refused-no-leaf (a .columns) (a .newer .now) (c .before .check .result) n (c .before .check .ensures .1) (c .match .keys2))
 
 check-requires-2 : tie.Need-check-requires-2
 check-requires-2 c κs = search needs
@@ -48,8 +48,8 @@ returns-3 c =
     let a = c .before .before .before .before .before .before .before .before .before .before .args in
     let h = subst (DecidingShape (a .columns) (a .newer .now) (a .older .now) (a .word .now)) (toZ-ofZ (c .before .before .before .before .before .before .before .before .before .before .fits .docid)) (c .before .before .before .before .before .before .entry-shape .ensures .0 (not-false _ (c .before .before .before .before .before .if1 .left))) in
     let o : CheckShape (a .columns) (a .older .now) = record { some = h .some; few = h .few; size = omega (arith, h .size) } in
-    let l = accepted-leaf (a .columns) (a .newer .now) (c .before .before .before .before .check .result) (c .before .before .before .before .check .ensures .1 .1 .0) (c .before .before .enum-told .given .1) in
-    deciding-exact (a .columns) (a .newer .now) (a .older .now) (a .word .now) (a .docid) (h, l, refused-no-leaf (a .columns) (a .older .now) (c .before .check2 .result) o (c .before .check2 .ensures .1 .1 .0) (c .match2 .keys2))
+    let l = accepted-leaf (a .columns) (a .newer .now) (c .before .before .before .before .check .result) (c .before .before .before .before .check .ensures .1) (c .before .before .enum-told .given .1) in
+    deciding-exact (a .columns) (a .newer .now) (a .older .now) (a .word .now) (a .docid) (h, l, refused-no-leaf (a .columns) (a .older .now) (c .before .check2 .result) o (c .before .check2 .ensures .1) (c .match2 .keys2))
 
 cast-decide : tie.Need-cast-decide
 cast-decide c =
@@ -62,19 +62,19 @@ decide-requires : tie.Need-decide-requires
 decide-requires c κs =
     let a = c .before .before .before .before .before .before .before .before .before .before .before .args in
     let h = subst (DecidingShape (a .columns) (a .newer .now) (a .older .now) (a .word .now)) (toZ-ofZ (c .before .before .before .before .before .before .before .before .before .before .before .fits .docid)) (c .before .before .before .before .before .before .before .entry-shape .ensures .0 (not-false _ (c .before .before .before .before .before .before .if1 .left))) in
-    let l = accepted-leaf (a .columns) (a .newer .now) (c .before .before .before .before .before .check .result) (c .before .before .before .before .before .check .ensures .1 .1 .0) (c .before .before .before .enum-told .given .1) in
-    let m = accepted-leaf (a .columns) (a .older .now) (c .before .before .check2 .result) (c .before .before .check2 .ensures .1 .1 .0) (c .enum-told2 .given .1) in
+    let l = accepted-leaf (a .columns) (a .newer .now) (c .before .before .before .before .before .check .result) (c .before .before .before .before .before .check .ensures .1) (c .before .before .before .enum-told .given .1) in
+    let m = accepted-leaf (a .columns) (a .older .now) (c .before .before .check2 .result) (c .before .before .check2 .ensures .1) (c .enum-told2 .given .1) in
     (omega (arith, h .word-right .some), l, m)
 
 returns-4 : tie.Need-returns-4
 returns-4 c =
     let a = c .before .before .before .before .before .before .before .before .before .before .before .before .args in
     let h = subst (DecidingShape (a .columns) (a .newer .now) (a .older .now) (a .word .now)) (toZ-ofZ (c .before .before .before .before .before .before .before .before .before .before .before .before .fits .docid)) (c .before .before .before .before .before .before .before .before .entry-shape .ensures .0 (not-false _ (c .before .before .before .before .before .before .before .if1 .left))) in
-    let l = accepted-leaf (a .columns) (a .newer .now) (c .before .before .before .before .before .before .check .result) (c .before .before .before .before .before .before .check .ensures .1 .1 .0) (c .before .before .before .before .enum-told .given .1) in
-    let m = accepted-leaf (a .columns) (a .older .now) (c .before .before .before .check2 .result) (c .before .before .before .check2 .ensures .1 .1 .0) (c .before .enum-told2 .given .1) in
+    let l = accepted-leaf (a .columns) (a .newer .now) (c .before .before .before .before .before .before .check .result) (c .before .before .before .before .before .before .check .ensures .1) (c .before .before .before .before .enum-told .given .1) in
+    let m = accepted-leaf (a .columns) (a .older .now) (c .before .before .before .check2 .result) (c .before .before .before .check2 .ensures .1) (c .before .enum-told2 .given .1) in
     let t = toZ-ofZ (c .before .before .before .before .before .before .before .before .before .before .before .before .fits .docid) in
     let d = c .decide .ensures (l .0) (m .0) (l .1, m .1) in
-    deciding-exact (a .columns) (a .newer .now) (a .older .now) (a .word .now) (a .docid) (decides-is (a .columns) (a .newer .now) (a .older .now) (a .word .now) (a .docid) (l .0) (m .0) h (l .1, m .1) (c .decide .result) (subst (λ (z : ℤ). Decides (l .0) (m .0) (a .word .now) (natAbs z) (c .decide .result)) t d))
+    deciding-exact (a .columns) (a .newer .now) (a .older .now) (a .word .now) (a .docid) (decides-claim (a .columns) (a .newer .now) (a .older .now) (a .word .now) (a .docid) (l .0) (m .0) h (l .1, m .1) (c .decide .result) (subst (λ (z : ℤ). Decides (l .0) (m .0) (a .word .now) (natAbs z) (c .decide .result)) t d))
 
 pub find-entry-spec : {M : Type 1} → statement M
 find-entry-spec =

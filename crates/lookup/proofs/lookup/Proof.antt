@@ -1,7 +1,8 @@
 -- `lookup` meets its contract: the part and the numbers are those of the answer that `find_list` gives.
 use native.Mathlib.Omega.{arith}
-use mathlib.Core.Path.{refl, sym, ap}
+use mathlib.Core.Path.{refl, sym, ap, ap₂}
 use borrow.Author.Needs.{needs}
+use Rattle.common.specs.Refusals.{numbers}
 use Rattle.lookup.specs.declared.WordAnswer.the-variants.{Found}
 use Rattle.lookup.specs.Words.{wordPart}
 use Rattle.lookup.proofs.WordLaws.{found-inside, none-found}
@@ -14,8 +15,8 @@ find-list-requires c κs = search needs
 word-number-requires : tie.Need-word-number-requires
 word-number-requires c κs = search needs
 
-word-beside-requires : tie.Need-word-beside-requires
-word-beside-requires c κs = search needs
+word-second-requires : tie.Need-word-second-requires
+word-second-requires c κs = search needs
 
 enum-known-answer : tie.Need-enum-known-answer
 enum-known-answer c = search needs
@@ -57,8 +58,7 @@ returns c =
       answer = r;
       right = c .before .before .before .before .before .before .find-list .ensures r .0 refl;
       part-is = sym (ap (wordPart (a .leaf .now)) (c .before .before .answer .given .1));
-      number-is = c .before .before .before .before .before .word-number .ensures;
-      beside-is = c .before .before .before .before .word-beside .ensures;
+      numbers-are = ap₂ numbers (c .before .before .before .before .before .word-number .ensures) (c .before .before .before .before .word-second .ensures);
     }
 
 returns-2 : tie.Need-returns-2
@@ -69,8 +69,7 @@ returns-2 c =
       answer = r;
       right = c .before .before .before .before .find-list .ensures r .0 refl;
       part-is = none-found (a .leaf .now) r (c .before .match .keys2);
-      number-is = c .before .before .before .word-number .ensures;
-      beside-is = c .before .before .word-beside .ensures;
+      numbers-are = ap₂ numbers (c .before .before .before .word-number .ensures) (c .before .before .word-second .ensures);
     }
 
 pub lookup-spec : {M : Type 1} → statement M
@@ -79,7 +78,7 @@ lookup-spec =
     (tie.spec
     find-list-requires
     word-number-requires
-    word-beside-requires
+    word-second-requires
     enum-known-answer
     add-end
     sub-result

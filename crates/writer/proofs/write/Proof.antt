@@ -8,7 +8,7 @@ use mir.Facts.{toZ-ofZ, fits-natAbs}
 use mir.Val.{SFits, toZ, ofZ}
 use mir.Syntax.{w64}
 use Rattle.writer.specs.Answers.{isDocid, docidOf, isDocument}
-use Rattle.writer.proofs.Rules.{docid-cast, docid-not-negative, shape-docid, told-shape, told-overlong, writing, told-leaf}
+use Rattle.writer.proofs.Rules.{docid-cast, docid-not-negative, shape-docid, kept-shape, kept-overlong, writing, kept-leaf}
 use borrow.Author.Needs.{needs}
 use Rattle.writer.proofs.write.Statement.{statement}
 use Rattle.writer.proofs.write.Tie as tie
@@ -39,7 +39,7 @@ same-length c = search needs
 returns : tie.Need-returns
 returns c =
     let z = c .before .before .before .before .before .before .before .before .before in
-    told-shape (z .args .docid) (z .args .texts .now) (z .args .ends .now) (length (z .args .room .now))
+    kept-shape (z .args .docid) (z .args .texts .now) (z .args .ends .now) (length (z .args .room .now))
     (sym (checked (c .before)) ∙ not-true (c .before .is-document .result) (c .if1 .taken)) (c .before .before .before .before .clear .last .0) (c .before .before .before .before .clear .ensures)
 
 first-overlong-requires : tie.Need-first-overlong-requires
@@ -52,7 +52,7 @@ returns-2 : tie.Need-returns-2
 returns-2 c =
     let z = c .before .before .before .before .before .before .before .before .before .before .before in
     let n = c .before .first-overlong in
-    told-overlong (z .args .docid) (z .args .texts .now) (z .args .ends .now) (length (z .args .room .now)) (document (c .before .before)) (n .result) (n .ensures) (c .if2 .taken)
+    kept-overlong (z .args .docid) (z .args .texts .now) (z .args .ends .now) (length (z .args .room .now)) (document (c .before .before)) (n .result) (n .ensures) (c .if2 .taken)
     (c .before .before .before .before .before .before .clear .last .0) (c .before .before .before .before .before .before .clear .ensures)
 
 cast-write-leaf : tie.Need-cast-write-leaf
@@ -76,7 +76,7 @@ returns-3 : tie.Need-returns-3
 returns-3 c =
     let z = c .before .before .before .before .before .before .before .before .before .before .before .before .before .before .before in
     let n = c .before .before .before .before .before .first-overlong in
-    told-leaf (z .args .docid) (z .args .texts .now) (z .args .ends .now) (length (z .args .room .now)) (document (c .before .before .before .before .before .before)) (n .result) (n .ensures) (c .before .before .before .before .if2 .left)
+    kept-leaf (z .args .docid) (z .args .texts .now) (z .args .ends .now) (length (z .args .room .now)) (document (c .before .before .before .before .before .before)) (n .result) (n .ensures) (c .before .before .before .before .if2 .left)
     (natAbs (toZ w64 (ofZ w64 (z .args .docid)))) (cast (c .before .before .before .before .before .before)) (length (c .before .before .before .before .before .before .before .before .before .before .clear .last .0)) (c .before .before .before .before .before .before .before .before .before .before .clear .kept .0)
     (c .before .before .write-leaf .result) (c .before .before .write-leaf .last .1 .1 .1 .0) (c .before .before .write-leaf .ensures)
 
