@@ -2,6 +2,9 @@
 import paths  # noqa: F401
 from fts4box import joined  # noqa: F401
 
+# What a case asks for: the number that it begins with, as in crates/cases/src/main.rt; 0 ends the input.
+READ, SIZE, WRITE, CUT, NAMES, WORD, CHECK, LOOKUP, DECIDING, QUERY, DOCUMENT, SEARCH = range(1, 13)
+
 
 class Cases:
     """Cases in order, with their expected answers."""
@@ -10,20 +13,28 @@ class Cases:
         self.asked = bytearray()
         self.lines = []
 
+    def ask(self, kind, n=0, m=0, first=b"", first_ends=(), second=b"", second_ends=(), short=b""):
+        """One case: every case has all parts, and those that it does not need are 0 or empty."""
+        self.number(kind)
+        self.number(n)
+        self.number(m)
+        self.field(first)
+        self.ends(first_ends)
+        self.field(second)
+        self.ends(second_ends)
+        self.field(short)
+
     def number(self, n):
         self.asked += n.to_bytes(8, "big")
-        return self
 
     def field(self, data):
         self.number(len(data))
         self.asked += data
-        return self
 
     def ends(self, ends):
         self.number(len(ends))
         for end in ends:
             self.asked += end.to_bytes(4, "big")
-        return self
 
     def expect(self, *parts):
         """The answer: numbers, byte strings (in hexadecimal with a full stop), None for nothing."""

@@ -2,31 +2,30 @@
 import random
 
 import reference
-from case_writer import Cases, joined
+from case_writer import CUT, NAMES, READ, SIZE, WORD, WRITE, joined
 
-READ, SIZE, WRITE, CUT, NAMES, WORD = range(1, 7)
 SEED = 20261
 
 
 def ask_read(cases, data, at):
-    cases.number(READ).field(data).number(at)
+    cases.ask(READ, at, short=data)
     answer = reference.read_varint(data, at)
     cases.expect(*(answer if answer else (None,)))
 
 
 def ask_size(cases, v):
-    cases.number(SIZE).number(v)
+    cases.ask(SIZE, v)
     cases.expect(reference.varint_size(v) or 9)
 
 
 def ask_write(cases, room, v):
-    cases.number(WRITE).field(room).number(v)
+    cases.ask(WRITE, v, short=room)
     kind, size, after = reference.write_varint(room, v)
     cases.expect({"bytes": 0, "noroom": 1, "toolarge": 2}[kind], size, after)
 
 
 def ask_cut(cases, data, ends, index):
-    cases.number(CUT).field(data).ends(ends).number(index)
+    cases.ask(CUT, index, first=data, first_ends=ends)
     parts = reference.cut(data, ends)
     if parts is None:
         cases.expect(0)
@@ -35,7 +34,7 @@ def ask_cut(cases, data, ends, index):
 
 
 def ask_names(cases, data, ends, name):
-    cases.number(NAMES).field(data).ends(ends).field(name)
+    cases.ask(NAMES, first=data, first_ends=ends, short=name)
     good = 1 if reference.names_ok(data, ends) else 0
     parts = reference.cut(data, ends)
     if parts is None:
@@ -45,7 +44,7 @@ def ask_names(cases, data, ends, name):
 
 
 def ask_word(cases, text, at):
-    cases.number(WORD).field(text).number(at)
+    cases.ask(WORD, at, short=text)
     found = reference.next_word(text, at)
     answer = ({"found": 0, "overlong": 1}[found[0]], found[1], found[2]) if found else (None,)
     cases.expect(*answer, bytes(reference.fold(text)))
@@ -115,11 +114,9 @@ def words(cases, rng):
         ask_word(cases, text, rng.choice((0, 1, 3, 9, 23, 24, 2**50)))
 
 
-def make():
-    cases = Cases()
+def make(cases):
     rng = random.Random(SEED)
     numbers(cases, rng)
     cuts(cases, rng)
     names(cases, rng)
     words(cases, rng)
-    return cases.files()

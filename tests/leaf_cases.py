@@ -2,9 +2,8 @@
 import random
 
 import reference
-from case_writer import Cases
+from case_writer import CHECK, DECIDING, LOOKUP
 
-CHECK, LOOKUP, DECIDING = range(1, 4)
 SEED = 20262
 
 # Document 01's example P12.
@@ -16,18 +15,18 @@ TOP_POSITION = 2**31 - 1
 
 
 def ask_check(cases, leaf, columns):
-    cases.number(CHECK).field(leaf).number(columns)
+    cases.ask(CHECK, columns, first=leaf)
     cases.expect(*reference.check_leaf(leaf, columns))
 
 
 def ask_lookup(cases, leaf, columns, word):
-    cases.number(LOOKUP).field(leaf).number(columns).field(word)
+    cases.ask(LOOKUP, columns, first=leaf, short=word)
     number, size, start = reference.lookup(leaf, columns, word)
     cases.expect(number, size, start, leaf[start:start + size] if number == 0 else b"")
 
 
 def ask_deciding(cases, newer, older, columns, word, docid):
-    cases.number(DECIDING).field(newer).field(older).number(columns).field(word).number(docid % 2**64)
+    cases.ask(DECIDING, columns, docid % 2**64, first=newer, second=older, short=word)
     number, beside, which, start = reference.deciding(newer, older, columns, word, docid)
     holder = older if which else newer
     part = holder[start:start + beside] if number == 0 else b""
@@ -197,8 +196,7 @@ def deletions(cases):
                 ask_deciding(cases, newer, older, 3, word, docid)
 
 
-def make():
-    cases = Cases()
+def make(cases):
     rng = random.Random(SEED)
     lists(cases)
     leaves(cases)
@@ -206,4 +204,3 @@ def make():
     lookups(cases, rng)
     refusals(cases)
     deletions(cases)
-    return cases.files()

@@ -1,12 +1,12 @@
 #!/usr/bin/env python3
-"""Makes the compared cases: for each program crate `cases_*`, its `stdin` and the `stdout` that the second program expects.
+"""Makes the compared cases: the program crate `cases` has them as its `stdin`, and what the second program answers as its `stdout`.
 
     python3 tests/make_cases.py            write them
     python3 tests/make_cases.py --check    fail if the committed ones differ from what would be written
 
-A case is a row of numbers and fields, as the crate `cases` reads them: a number takes eight bytes, the highest first; a
-field is its length and its bytes; ends are their count and four bytes each. Every case begins with the number of what it
-asks for; 0 ends the input. The seeds are fixed.
+A case is the number of what it asks for, two numbers, two fields with their ends, and a short field (case_writer.py). A
+number takes eight bytes, the highest first; a field is its length and its bytes; ends are their count and four bytes each.
+The number 0 ends the input. The seeds are fixed.
 """
 import os
 import sys
@@ -16,22 +16,20 @@ import leaf_cases
 import query_cases
 import search_cases
 import writer_cases
+from case_writer import Cases
 
 ROOT = os.path.dirname(os.path.dirname(os.path.abspath(__file__)))
-PROGRAMS = {
-    "cases_ground": ground_cases.make,
-    "cases_leaf": leaf_cases.make,
-    "cases_query": query_cases.make,
-    "cases_writer": writer_cases.make,
-    "cases_search": search_cases.make,
-}
+FOLDER = os.path.join(ROOT, "crates", "cases")
+LAYERS = [ground_cases, leaf_cases, query_cases, writer_cases, search_cases]
 
 
-def files(program):
-    """The two files of a program: path and content."""
-    asked, answered = PROGRAMS[program]()
-    folder = os.path.join(ROOT, "crates", program)
-    return [(os.path.join(folder, "stdin"), asked), (os.path.join(folder, "stdout"), answered)]
+def files():
+    """The program's two files: path and content."""
+    cases = Cases()
+    for layer in LAYERS:
+        layer.make(cases)
+    asked, answered = cases.files()
+    return [(os.path.join(FOLDER, "stdin"), asked), (os.path.join(FOLDER, "stdout"), answered)]
 
 
 def differs(path, content):
@@ -46,14 +44,13 @@ def main(words):
         print(__doc__.strip(), file=sys.stderr)
         return 2
     wrong = []
-    for program in PROGRAMS:
-        for path, content in files(program):
-            if words == ["--check"]:
-                if differs(path, content):
-                    wrong.append(os.path.relpath(path, ROOT))
-            else:
-                with open(path, "wb") as f:
-                    f.write(content)
+    for path, content in files():
+        if words == ["--check"]:
+            if differs(path, content):
+                wrong.append(os.path.relpath(path, ROOT))
+        else:
+            with open(path, "wb") as f:
+                f.write(content)
     for path in wrong:
         print("not what the second program gives:", path)
     return 1 if wrong else 0

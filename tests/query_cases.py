@@ -2,9 +2,8 @@
 import random
 
 import reference
-from case_writer import Cases, joined
+from case_writer import QUERY, joined
 
-QUERY = 1
 SEED = 20264
 NAMES = [b"node", b"sent", b"outcome"]
 BEGINS, CONTINUES, BARE, WRITTEN = range(4)
@@ -35,7 +34,7 @@ def flat(tree):
 
 def ask(cases, query, names=NAMES):
     data, ends = joined(names)
-    cases.number(QUERY).field(data).ends(ends).field(query)
+    cases.ask(QUERY, first=data, first_ends=ends, short=query)
     tree = reference.read_query(query, names)
     if tree is None:
         cases.expect(reference.QUERY)
@@ -141,12 +140,10 @@ def generated(cases, rng):
             ask(cases, damaged(rng, query))
 
 
-def make():
-    cases = Cases()
+def make(cases):
     rng = random.Random(SEED)
     limits(cases)
     open_points(cases)
     bytes_alone(cases)
     operators(cases)
     generated(cases, rng)
-    return cases.files()

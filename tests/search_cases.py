@@ -2,9 +2,8 @@
 import random
 
 import reference
-from case_writer import Cases, joined
+from case_writer import SEARCH, joined
 
-SEARCH = 1
 SEED = 20265
 NAMES = [b"node", b"sent", b"outcome"]
 VERDICT = b"outcome:reply NOT outcome:timeout"
@@ -22,7 +21,7 @@ def ask(cases, query, leaves, room, names=NAMES, name_ends=None, leaf_ends=None)
     leaves_data, cuts = joined(leaves)
     name_ends = ends if name_ends is None else name_ends
     leaf_ends = cuts if leaf_ends is None else leaf_ends
-    cases.number(SEARCH).field(names_data).ends(name_ends).field(leaves_data).ends(leaf_ends).field(query).number(room)
+    cases.ask(SEARCH, room, first=names_data, first_ends=name_ends, second=leaves_data, second_ends=leaf_ends, short=query)
     expect(cases, *reference.search(names_data, name_ends, leaves_data, leaf_ends, query, room))
 
 
@@ -146,12 +145,10 @@ def positions(cases):
         ask_rooms(cases, query, [leaf])
 
 
-def make():
-    cases = Cases()
+def make(cases):
     rng = random.Random(SEED)
     positions(cases)
     indexes(cases, rng)
     shapes(cases)
     faults(cases)
     silence(cases)
-    return cases.files()

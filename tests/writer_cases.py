@@ -2,16 +2,15 @@
 import random
 
 import reference
-from case_writer import Cases, joined
+from case_writer import DOCUMENT, joined
 
-WRITE = 1
 SEED = 20263
 TOP_DOCID = 2**63 - 1
 
 
 def ask(cases, docid, texts, ends, room):
     """The room's size is handed in; the program fills it with other bytes beforehand."""
-    cases.number(WRITE).number(docid % 2**64).field(texts).ends(ends).number(room)
+    cases.ask(DOCUMENT, room, docid % 2**64, first=texts, first_ends=ends)
     number, beside, after = reference.write_leaf(docid, texts, ends, room)
     held = len(after.rstrip(b"\x00"))
     cases.expect(number, beside, after[:beside] if number == 0 else b"", held)
@@ -70,11 +69,9 @@ def long_documents(cases):
     ask(cases, 7, *joined([b"a " * 1024, b"b a " * 512]), 16384)
 
 
-def make():
-    cases = Cases()
+def make(cases):
     rng = random.Random(SEED)
     shapes(cases)
     words(cases)
     generated(cases, rng)
     long_documents(cases)
-    return cases.files()
