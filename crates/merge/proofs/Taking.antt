@@ -11,7 +11,7 @@ use mathlib.Core.List.{List, [], _∷_, _++_, append-assoc, append-nil}
 use lib.ListN.{length, getD, take, drop, set, length-append, length-set, List·getD-append}
 use lib.Seq.{take-suc, take-all, drop-drop, drop-append-le, getD-set-same, getD-set-other, getD-at, split-at}
 use lib.Dec.{eqb}
-use borrow.Author.Tests.{eq-eqb, ne-eqb}
+use borrow.Author.Tests.{ne-eqb}
 use Rattle.common.specs.Bytes.{same}
 use Rattle.common.proofs.Cases.{split, same-or, bool-case, false-not-true}
 use Rattle.common.proofs.Lists.{same-true, same-refl}
@@ -27,6 +27,7 @@ use Rattle.merge.specs.Matching.{maskOf}
 use Rattle.merge.specs.Fronts.{wordOf, skipTo, Shows, FrontIs, hasWord, frontAt, noFront, Placed, popped, allPopped, headFor, headLists, FrontsAre, Able, WordTaken}
 use Rattle.merge.specs.declared.Front.{Front}
 use Rattle.merge.proofs.Masks.{matches-law}
+use Rattle.merge.proofs.Framing.{has-mask}
 
 -- ---- from a leaf to all leaves
 
@@ -149,15 +150,12 @@ group-more mask f (x ∷ ls) l = ap (λ (cs : List Cursor). record { mask = mask
 
 -- ---- whether a front has the word
 
-has-some : (f g : Front) → hasWord f g ≡ true → f .mask ≡ 0 → ⊥
-has-some f g e z = false-not-true (sym (rw (eq-eqb (f .mask) 0 z) refl) ∙ e)
-
 has-same : (f g : Front) → hasWord f g ≡ true → wordOf g ≡ wordOf f
 has-same f g e =
     ⊎-elim
     (λ h. h .1)
     (λ h. false-not-true (h .0))
-    (matches-law (record { bytes = wordOf f; star = false }) (wordOf g) .0 (sym (rw (ne-eqb (f .mask) 0 (has-some f g e)) refl) ∙ e))
+    (matches-law (record { bytes = wordOf f; star = false }) (wordOf g) .0 (sym (rw (ne-eqb (f .mask) 0 (has-mask f g e)) refl) ∙ e))
 
 has-not : (f g : Front) → hasWord f g ≡ false → (f .mask ≡ 0 → ⊥) → wordOf g ≡ wordOf f → ⊥
 has-not f g e h q =
@@ -178,7 +176,7 @@ module _ (nodes : List Node) (columns : ℕ) (leaf : List ℕ) (base : ℕ) (f g
   front-this : (ts : List Term) → FrontIs nodes columns leaf base f ts → hasWord f g ≡ true
       → (t : Term) × (us : List Term) × (ts ≡ t ∷ us) × Shows nodes columns leaf base f t us × (t .word ≡ wordOf g) × (headFor (wordOf g) ts ≡ t .entries ∷ [])
       × (popped nodes (wordOf g) ts ≡ skipTo nodes us)
-  front-this [] s e = absurd (has-some f g e s)
+  front-this [] s e = absurd (has-mask f g e s)
   front-this (t ∷ us) s e =
       let w : t .word ≡ wordOf g = sym (s .word) ∙ sym (has-same f g e) in
       let q : same (t .word) (wordOf g) ≡ true = ap (same (t .word)) (sym w) ∙ same-refl (t .word) in
