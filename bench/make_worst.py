@@ -64,7 +64,7 @@ def spread(count):
 
 
 def many_hits(count):
-    """In one row, words with one position each, and behind them one with as many positions as there are words left."""
+    """In one row, words with one position each, and after them one with as many positions as there are words left."""
     words = numbered(count, 3)
     rows = [term(b"a" + w, [(1, [4 * i])]) for i, w in enumerate(words)]
     return rows + [term(b"b", [(1, list(range(3 * count)))])]

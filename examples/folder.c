@@ -34,7 +34,7 @@ struct manifest {
     struct file files[FTS4_MAX_LEAVES];
 };
 
-/* What is lent to the box: byte strings one behind the other, and where each ends. */
+/* What is lent to the box: byte strings one after the other, and where each ends. */
 struct lent {
     uint8_t names[FTS4_MAX_COLUMNS * FTS4_MAX_NAME];
     uint32_t name_ends[FTS4_MAX_COLUMNS];
@@ -220,7 +220,7 @@ static void read_manifest(const char *folder, struct manifest *manifest, struct 
     read_files(manifest);
     read_hash(manifest, "end");
     if (fgetc(manifest->input) != EOF)
-        wrong(manifest, "something stands behind this line");
+        wrong(manifest, "something comes after this line");
     if (ferror(manifest->input))
         stop("manifest.txt", 0, "can't be read");
     fclose(manifest->input);

@@ -11,7 +11,7 @@
  * one slice with a list of 32-bit ends: the ends never fall, none passes the slice's length, and the last equals it; an
  * empty list goes only with an empty slice. Leaves come newest first.
  *
- * What a caller must keep (it is not checked): every pointer is aligned and has so many elements behind it; the numbers to be
+ * What a caller must keep (it is not checked): every pointer is aligned and has so many elements from it on; the numbers to be
  * stored are not NULL; a room and those numbers do not overlap each other or an input.
  *
  * Rooms. A refusal leaves the whole room zeros; acceptance leaves the result and then zeros. A room of length 0 is enough for

@@ -26,7 +26,7 @@ def ask(cases, query, leaves, room, names=NAMES, name_ends=None, leaf_ends=None)
 
 
 def expect(cases, number, beside, after):
-    """The two numbers, the docids listed, and how many numbers behind them are not 0."""
+    """The two numbers, the docids listed, and how many numbers after them are not 0."""
     listed = after[:beside] if number == 0 else []
     cases.expect(number, beside, *listed, sum(1 for d in after[len(listed):] if d != 0))
 

@@ -73,7 +73,7 @@ def flags(tally, tree):
 def examples(tally, tree, export):
     for what, words in flags(tally, tree):
         for name, arguments in (("search", []), ("folder", [export, "reply"])):
-            # the library must stand behind the source that needs it
+            # the library must come after the source that needs it
             build = ["cc", *STRICT, "-o", name, os.path.join("examples", name + ".c"), *words]
             if tally.check("build of %s, %s" % (name, what), ran(*build, cwd=tree), (0, "")):
                 tally.check("%s, %s" % (name, what), ran(os.path.join(tree, name), *arguments), (0, EXPECTED))

@@ -114,7 +114,7 @@ def manifest_bytes(place):
     """Bytes that don't belong where they stand."""
     whole = folders.ended(place.lines)
     for rest in (b"\n", b" ", b"\x00", b"end\n", b"file x\n"):
-        place.asked("%r behind the manifest" % rest, WRONG, whole + rest)
+        place.asked("%r after the manifest" % rest, WRONG, whole + rest)
     place.asked("lines ended by CR and LF", WRONG, whole.replace(b"\n", b"\r\n"))
     place.asked("a byte 0", WRONG, whole.replace(b"table probes", b"table pro\x00bes"))
     place.asked("a line of 100,000 bytes", WRONG, whole.replace(b"table probes", b"table " + b"p" * 100000))

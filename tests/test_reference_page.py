@@ -81,7 +81,7 @@ def macros(tally, page):
 
 
 def stored_numbers(tally, box, page):
-    """Each number as the docid of a row with the word a: height, length, a, list length come before it, position and 0 behind it."""
+    """Each number as the docid of a row with the word a: height, length, a, list length come before it, position and 0 after it."""
     for number, data in page.table("| number | bytes |", 0):
         leaf = folders.written(box, int(number), [b"a"])
         tally.check("bytes of %s" % number, leaf[4:-2], unhex(data))

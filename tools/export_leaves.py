@@ -95,7 +95,7 @@ def column_names(base, table, said):
 
 
 def partly_merged(end_block):
-    """SQLite writes the size of a segment behind its end block, and writes it below zero while a merge goes on."""
+    """SQLite writes the size of a segment after its end block, and writes it below zero while a merge goes on."""
     return " -" in str(end_block)
 
 

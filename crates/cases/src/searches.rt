@@ -1,4 +1,4 @@
-// The compared cases of the search: the two numbers, the docids, and how many numbers of the room behind them are not 0.
+// The compared cases of the search: the two numbers, the docids, and how many numbers of the room after them are not 0.
 use crate::exchange;
 use search::Answer;
 ghost use mathlib.Core.Path.{_≡_};
@@ -71,7 +71,7 @@ fn others(room: &[i64], from: usize) -> usize
     n
 }
 
-// The docids listed, and the numbers behind them.
+// The docids listed, and the numbers after them.
 fn say_room(number: u64, second: usize, room: &[i64]) {
     if number == 0 {
         say_docids(room, second);

@@ -7,17 +7,20 @@ use mathlib.Core.Logic.{_↔_, _⊎_, inl, inr, ⊎-elim}
 use mathlib.Core.List.{List, [], _∷_, _++_, append-assoc}
 use lib.ListN.{length, getD, drop, length-append}
 use borrow.Author.Tests.{eq-eqb, ne-eqb, lt-ltb, le-ltb}
-use Rattle.lexer.specs.Token.{QueryWord, Phrase, Distance, begins, continues, nears, Node, phraseNodes, tieDistance, allows}
+use Rattle.common.proofs.Lists.{drop-inside, drop-outside, drop-next}
+use Rattle.common.proofs.Cases.{fails-exactly, passes-exactly, false-refutes}
+use Rattle.common.specs.Bits.{contains}
+use Rattle.lexer.specs.Token.{QueryWord, Phrase, Distance, begins, continues, nears, Node, phraseNodes, tieDistance}
 use Rattle.query.specs.Tree.{Link, Chain, linkNodes, chainNodes}
 use Rattle.meaning.specs.Satisfies.{Live, Standing, StandsAt, distanceOf, ChainHolds}
 use Rattle.row.specs.Row.{Hit}
 use Rattle.row.specs.Walk.{candidates, WholeRow}
-use Rattle.chain.specs.Chains.{WordsAre, FilledLinks, Begins, runEnd, chainEnd, RowFits, Agrees, ChainAt, Room, markWords, Decides}
-use Rattle.chain.specs.Reaching.{marked, distanceAt, Nth, SomeAllowed, sourceOf, Steps, windowOf, startOf}
-use Rattle.chain.specs.Going.{GoesOn, Inside, WordsAt, Continues}
+use Rattle.lexer.proofs.Nodes.{length-nodeMap, length-phraseNodes}
+use Rattle.chain.specs.Chains.{TiesAre, FilledLinks, BeginsChain, runEnd, chainEnd, RowFits, Agrees, ChainAt, MarkRoom, markWords, DecidesChain}
+use Rattle.chain.specs.Reaching.{isMarked, distanceAt, Nth, SomeAllowed, sourceOf, Steps, windowOf, operandStart}
+use Rattle.chain.specs.Going.{GoesOn, InsideColumns, WordsAt, Continues}
 use Rattle.chain.specs.declared.Window.{Window}
-use Rattle.chain.proofs.General.{drop-inside, drop-outside, drop-next, never, always, not-so}
-use Rattle.chain.proofs.Nodes.{length-nodeMap, length-ties, tie-is, columns-is, distance-is, phrase-end, chain-end, links-stop, nears-high, length-phraseNodes, Stops}
+use Rattle.chain.proofs.Nodes.{length-ties, tie-is, columns-is, distance-is, phrase-end, chain-end, links-stop, nears-high, StopsTied}
 use Rattle.chain.proofs.Going.{goes-first, goes-single, goes-word, goes-link}
 
 -- ---- a link
@@ -30,9 +33,9 @@ record LinkIs (ties distances columns : List ℕ) (end : ℕ) (d : Distance) (se
   pub distance-are : distanceAt ties distances end ≡ distanceOf d
   pub next-is : runEnd 1 ties end ≡ end + length ws
 
-module _ (nodes : List Node) (ties distances columns : List ℕ) (words : WordsAre nodes ties distances columns) where
+module _ (nodes : List Node) (ties distances columns : List ℕ) (words : TiesAre nodes ties distances columns) where
   link-words : (end : ℕ) (d : Distance) (set : ℕ) (ws : List QueryWord) (ys : List Node) → 0 < length ws
-      → drop end nodes ≡ phraseNodes (nears d) set ws ++ ys → Stops 1 ys → LinkIs ties distances columns end d set ws
+      → drop end nodes ≡ phraseNodes (nears d) set ws ++ ys → StopsTied 1 ys → LinkIs ties distances columns end d set ws
   link-words end d set [] ys h e s = absurd (omega arith)
   link-words end d set (w ∷ ws) ys h e s =
       let n : Node = record { tie = nears d; word = w; columns = set } in
@@ -56,8 +59,8 @@ module _ (nodes : List Node) (ties distances columns : List ℕ) (words : WordsA
         link-words end (l .distance) (l .phrase .columns) (l .phrase .words) (linkNodes ls ++ at .rest) (at .filled .0) link-here
         (links-stop ls (at .rest) (at .filled .1) (at .begins))
 
-  -- behind the last word of a chain the tie is less than 1
-  no-link : (end : ℕ) (rest : List Node) → drop end nodes ≡ rest → Begins rest → end < length ties → getD ties end 0 < 1
+  -- after the last word of a chain the tie is less than 1
+  no-link : (end : ℕ) (rest : List Node) → drop end nodes ≡ rest → BeginsChain rest → end < length ties → getD ties end 0 < 1
   no-link end [] e b h = absurd (omega (arith, drop-outside nodes end e, length-ties nodes ties distances columns words))
   no-link end (n ∷ rest) e b h = rw (tie-is nodes ties distances columns words end n rest e, b) (omega arith)
 
@@ -70,7 +73,7 @@ goes-moved stands ws todo source hits size size′ at at′ e f =
 
 module _ (ties distances columns : List ℕ) (from end : ℕ) (first : Bool) (leaves starts masks before marks : List ℕ) where
   stops-here : length ties ≤ end ⊎ (getD ties end 0 < 1) → Continues ties distances columns from end first leaves starts masks before marks true
-  stops-here out nodes [] [] hits live docid words at row agrees room inside more = ⊎-elim (λ h. absurd (omega arith)) (λ g. always g) more
+  stops-here out nodes [] [] hits live docid words at row agrees room inside more = ⊎-elim (λ h. absurd (omega arith)) (λ g. passes-exactly g) more
   stops-here out nodes [] (l ∷ todo) hits live docid words at row agrees room inside more =
       let k = link-is nodes ties distances columns words end (getD columns from 0) l todo at in
       absurd (⊎-elim (λ h. omega (arith, k .inside)) (λ h. omega (arith, k .tie-high)) out)
@@ -88,45 +91,45 @@ module _ (ties distances columns : List ℕ) (from end : ℕ) (first : Bool) (le
   pub continues-low : getD ties end 0 < 1 → Continues ties distances columns from end first leaves starts masks before marks true
   continues-low h = stops-here (inr h)
 
-  -- the state behind the word `end`
+  -- the state after the word `end`
   record Behind (put : List ℕ) (nodes : List Node) (ws : List QueryWord) (todo : List Link) (hits : List Hit) (stands : Standing) : Type 0 where
     pub words-next : List QueryWord
     pub todo-next : List Link
-    pub at-next : WordsAt nodes (end + 1) (getD columns (startOf ties from end) 0) words-next todo-next
-    pub inside-next : Inside (getD columns (startOf ties from end) 0) (sourceOf false (getD columns (startOf ties from end) 0) put) (candidates (end + 1 - 1) hits)
+    pub at-next : WordsAt nodes (end + 1) (getD columns (operandStart ties from end) 0) words-next todo-next
+    pub inside-next : InsideColumns (getD columns (operandStart ties from end) 0) (sourceOf false (getD columns (operandStart ties from end) 0) put) (candidates (end + 1 - 1) hits)
     pub same : GoesOn stands ws todo (end - from) (sourceOf first (getD columns from 0) before) (candidates (end - 1) hits)
-        ↔ GoesOn stands words-next todo-next (end + 1 - startOf ties from end) (sourceOf false (getD columns (startOf ties from end) 0) put) (candidates (end + 1 - 1) hits)
+        ↔ GoesOn stands words-next todo-next (end + 1 - operandStart ties from end) (sourceOf false (getD columns (operandStart ties from end) 0) put) (candidates (end + 1 - 1) hits)
 
   module _ (forward : from < end) (inside : end < length ties) (tied : 1 ≤ getD ties end 0) (put : List ℕ) (r : Bool)
       (steps : (hits : List Hit) → RowFits leaves starts masks hits → markWords ≤ length marks
       → Steps hits end (getD columns end 0) (windowOf ties distances from end) (sourceOf first (getD columns from 0) before) put r) where
     -- what is known of a step, put together
     behind-of : (nodes : List Node) (ws ws′ : List QueryWord) (todo todo′ : List Link) (hits : List Hit) (stands : Standing) (start size : ℕ)
-        → startOf ties from end ≡ start → size ≡ end + 1 - start → getD columns end 0 ≡ getD columns start 0
+        → operandStart ties from end ≡ start → size ≡ end + 1 - start → getD columns end 0 ≡ getD columns start 0
         → WordsAt nodes (end + 1) (getD columns start 0) ws′ todo′
         → Steps hits end (getD columns end 0) (windowOf ties distances from end) (sourceOf first (getD columns from 0) before) put r
         → GoesOn stands ws todo (end - from) (sourceOf first (getD columns from 0) before) (candidates (end - 1) hits)
-        ↔ GoesOn stands ws′ todo′ size (λ j column. marked put j) (candidates end hits)
+        ↔ GoesOn stands ws′ todo′ size (λ j column. isMarked put j) (candidates end hits)
         → Behind put nodes ws todo hits stands
     behind-of nodes ws ws′ todo todo′ hits stands start size e f g at s same =
-        let m = goes-moved stands ws′ todo′ (λ j column. marked put j) hits size (end + 1 - startOf ties from end) end (end + 1 - 1) (f ∙ ap (λ (n : ℕ). end + 1 - n) (sym e)) (omega arith) in
+        let m = goes-moved stands ws′ todo′ (λ j column. isMarked put j) hits size (end + 1 - operandStart ties from end) end (end + 1 - 1) (f ∙ ap (λ (n : ℕ). end + 1 - n) (sym e)) (omega arith) in
         record {
           words-next = ws′;
           todo-next = todo′;
           at-next = subst (λ (n : ℕ). WordsAt nodes (end + 1) (getD columns n 0) ws′ todo′) (sym e) at;
           inside-next = λ j x n h.
-              subst (λ (c : ℕ). allows c (x .column) ≡ true) (g ∙ ap (λ (n : ℕ). getD columns n 0) (sym e))
-              (s .marks-tell j (x .column) (x .position) (subst (λ (k : ℕ). Nth (candidates k hits) j x) (omega arith) n) .0 h .0);
+              subst (λ (c : ℕ). contains c (x .column) ≡ true) (g ∙ ap (λ (n : ℕ). getD columns n 0) (sym e))
+              (s .marks-are j (x .column) (x .position) (subst (λ (k : ℕ). Nth (candidates k hits) j x) (omega arith) n) .0 h .0);
           same = (λ h. subst (λ (X : Type 0). X) m (same .0 h), λ h. same .1 (subst (λ (X : Type 0). X) (sym m) h));
         }
 
     behind : (nodes : List Node) (ws : List QueryWord) (todo : List Link) (hits : List Hit) (live : Live) (docid : ℕ)
-        → WordsAre nodes ties distances columns
+        → TiesAre nodes ties distances columns
         → WordsAt nodes end (getD columns from 0) ws todo
         → RowFits leaves starts masks hits
         → Agrees (StandsAt live docid) nodes hits
-        → Room before marks
-        → Inside (getD columns from 0) (sourceOf first (getD columns from 0) before) (candidates (end - 1) hits)
+        → MarkRoom before marks
+        → InsideColumns (getD columns from 0) (sourceOf first (getD columns from 0) before) (candidates (end - 1) hits)
         → Behind put nodes ws todo hits (StandsAt live docid)
     behind nodes [] [] hits live docid words at row agrees room within =
         absurd (omega (arith, no-link nodes ties distances columns words end (at .rest) (at .here) (at .begins) inside))
@@ -147,7 +150,7 @@ module _ (ties distances columns : List ℕ) (from end : ℕ) (first : Bool) (le
         (goes-word leaves starts masks (StandsAt live docid) nodes hits agrees row end n xs (at .here) (getD columns end 0) (record { word = end - 1; back = 1; ahead = 0 }) (sourceOf first set before) put r
         (subst (λ (x : Window). Steps hits end (getD columns end 0) x (sourceOf first set before) put r) e s)
         (end - from) ws todo refl refl
-        (subst (λ (x : ℕ). Inside x (sourceOf first set before) (candidates (end - 1) hits)) (sym c) within))
+        (subst (λ (x : ℕ). InsideColumns x (sourceOf first set before) (candidates (end - 1) hits)) (sym c) within))
     behind nodes [] (l ∷ todo) hits live docid words at row agrees room within = go (l .phrase .words) refl
       where
         is : LinkIs ties distances columns end (l .distance) (l .phrase .columns) (l .phrase .words)
@@ -187,15 +190,15 @@ module _ (ties distances columns : List ℕ) (from end : ℕ) (first : Bool) (le
     pub continues-not : r ≡ false → Continues ties distances columns from end first leaves starts masks before marks false
     continues-not e nodes ws todo hits live docid words at row agrees room within more =
         let b = behind nodes ws todo hits live docid words at row agrees room within in
-        never
+        fails-exactly
         (λ h.
         let g = b .same .0 h in
-        not-so (steps hits row (room .spare-room) .some) e
+        false-refutes (steps hits row (room .spare-room) .some) e
         (g .0, g .1, subst (λ (k : ℕ). Nth (candidates k hits) (g .0) (g .1)) (omega arith) (g .2), g .3))
 
     -- it is reached: the chain goes on from there
     pub continues-more : r ≡ true → length put ≡ length marks → (spare : List ℕ) → length spare ≡ length before → (t : Bool)
-        → Continues ties distances columns (startOf ties from end) (end + 1) false leaves starts masks put spare t
+        → Continues ties distances columns (operandStart ties from end) (end + 1) false leaves starts masks put spare t
         → Continues ties distances columns from end first leaves starts masks before marks t
     continues-more e kept spare free t go nodes ws todo hits live docid words at row agrees room within more =
         let b = behind nodes ws todo hits live docid words at row agrees room within in
@@ -209,7 +212,7 @@ module _ (ties distances columns : List ℕ) (from end : ℕ) (first : Bool) (le
 
 -- ---- the answers of `holds`
 
-module _ (ties distances columns : List ℕ) (from : ℕ) (nodes : List Node) (words : WordsAre nodes ties distances columns) (c : Chain) (at : ChainAt nodes from c) where
+module _ (ties distances columns : List ℕ) (from : ℕ) (nodes : List Node) (words : TiesAre nodes ties distances columns) (c : Chain) (at : ChainAt nodes from c) where
   first-here : drop from nodes ≡ phraseNodes begins (c .first .columns) (c .first .words) ++ (linkNodes (c .links) ++ at .rest)
   first-here = at .here ∙ append-assoc (phraseNodes begins (c .first .columns) (c .first .words)) (linkNodes (c .links)) (at .rest)
 
@@ -260,12 +263,12 @@ module _ (ties distances columns : List ℕ) (from : ℕ) (nodes : List Node) (w
       more [] k = k
       more (l ∷ ls) k = omega arith
 
-  -- it holds if it can go on behind its first word
+  -- it holds if it can go on after its first word
   module _ (leaves starts masks : List ℕ) (hits : List Hit) (live : Live) (docid : ℕ) (row : RowFits leaves starts masks hits) (agrees : Agrees (StandsAt live docid) nodes hits) where
     holds-first : ChainHolds (StandsAt live docid) c
-        ↔ GoesOn (StandsAt live docid) (first-is .others) (c .links) 1 (λ j column. allows (getD columns from 0) column) (candidates from hits)
+        ↔ GoesOn (StandsAt live docid) (first-is .others) (c .links) 1 (λ j column. contains (getD columns from 0) column) (candidates from hits)
     holds-first =
-        subst (λ (x : ℕ). ChainHolds (StandsAt live docid) c ↔ GoesOn (StandsAt live docid) (first-is .others) (c .links) 1 (λ j column. allows x column) (candidates from hits)) (sym (first-is .columns-are))
+        subst (λ (x : ℕ). ChainHolds (StandsAt live docid) c ↔ GoesOn (StandsAt live docid) (first-is .others) (c .links) 1 (λ j column. contains x column) (candidates from hits)) (sym (first-is .columns-are))
         (goes-first leaves starts masks (StandsAt live docid) nodes hits agrees row from (record { tie = begins; word = first-is .word; columns = c .first .columns })
         (phraseNodes continues (c .first .columns) (first-is .others) ++ (linkNodes (c .links) ++ at .rest)) (first-is .node-is) c (first-is .others) (first-is .words-are))
 
@@ -285,24 +288,24 @@ one-word p (l ∷ ls) h f e =
     ))
 
 module _ (ties distances columns : List ℕ) (from : ℕ) (leaves starts masks marks spare : List ℕ) where
-  pub decides-outside : length ties ≤ from → Decides ties distances columns from leaves starts masks marks spare false
+  pub decides-outside : length ties ≤ from → DecidesChain ties distances columns from leaves starts masks marks spare false
   decides-outside h nodes c hits live docid words at row agrees room =
       absurd (omega (arith, first-is ties distances columns from nodes words c at .inside))
 
-  pub decides-short : length distances < length ties → Decides ties distances columns from leaves starts masks marks spare false
+  pub decides-short : length distances < length ties → DecidesChain ties distances columns from leaves starts masks marks spare false
   decides-short h nodes c hits live docid words at row agrees room =
       absurd (omega (arith, ap length (words .distances-are), length-nodeMap (λ n. tieDistance (n .tie)) nodes, length-ties nodes ties distances columns words))
 
-  pub decides-narrow : length columns < length ties → Decides ties distances columns from leaves starts masks marks spare false
+  pub decides-narrow : length columns < length ties → DecidesChain ties distances columns from leaves starts masks marks spare false
   decides-narrow h nodes c hits live docid words at row agrees room =
       absurd (omega (arith, ap length (words .columns-are), length-nodeMap (λ n. n .columns) nodes, length-ties nodes ties distances columns words))
 
-  pub decides-cramped : (Room marks spare → ⊥) → Decides ties distances columns from leaves starts masks marks spare false
+  pub decides-cramped : (MarkRoom marks spare → ⊥) → DecidesChain ties distances columns from leaves starts masks marks spare false
   decides-cramped h nodes c hits live docid words at row agrees room = absurd (h room)
 
   pub decides-single : chainEnd ties from ≡ from + 1 → (r : Bool)
       → ((hits : List Hit) → WholeRow leaves starts masks hits → (r ≡ true) ↔ SomeAllowed (candidates from hits) (getD columns from 0))
-      → Decides ties distances columns from leaves starts masks marks spare r
+      → DecidesChain ties distances columns from leaves starts masks marks spare r
   decides-single e r some nodes c hits live docid words at row agrees room =
       let f = first-is ties distances columns from nodes words c at in
       let o = one-word (c .first) (c .links) (at .filled .0) (at .filled .1) (omega (arith, end-is ties distances columns from nodes words c at)) in
@@ -311,14 +314,14 @@ module _ (ties distances columns : List ℕ) (from : ℕ) (leaves starts masks m
       let s = some hits (row .row) in
       (λ t. h .1 (g .0 (s .0 t)), λ t. s .1 (g .1 (h .0 t)))
 
-  pub decides-several : from + 1 < chainEnd ties from → (before put : List ℕ) → Room before put → (r : Bool) → Continues ties distances columns from (from + 1) true leaves starts masks before put r
-      → Decides ties distances columns from leaves starts masks marks spare r
+  pub decides-several : from + 1 < chainEnd ties from → (before put : List ℕ) → MarkRoom before put → (r : Bool) → Continues ties distances columns from (from + 1) true leaves starts masks before put r
+      → DecidesChain ties distances columns from leaves starts masks marks spare r
   decides-several e before put given r go nodes c hits live docid words at row agrees room =
       let f = first-is ties distances columns from nodes words c at in
       let h = holds-first ties distances columns from nodes words c at leaves starts masks hits live docid row agrees in
       let n : Node = record { tie = begins; word = f .word; columns = c .first .columns } in
       let xs : List Node = phraseNodes continues (c .first .columns) (f .others) ++ (linkNodes (c .links) ++ at .rest) in
-      let m = goes-moved (StandsAt live docid) (f .others) (c .links) (λ j column. allows (getD columns from 0) column) hits (from + 1 - from) 1 (from + 1 - 1) from (omega arith) (omega arith) in
+      let m = goes-moved (StandsAt live docid) (f .others) (c .links) (λ j column. contains (getD columns from 0) column) hits (from + 1 - from) 1 (from + 1 - 1) from (omega arith) (omega arith) in
       let q =
       go nodes (f .others) (c .links) hits live docid words
       (record {

@@ -1,5 +1,5 @@
--- From word to word: the chain can go on behind the candidates that a step marks exactly if it could before the step
--- (`goes-word`, `goes-link`), and a chain holds exactly if it can go on behind its first word (`goes-first`).
+-- From word to word: the chain can go on after the candidates that a step marks exactly if it could before the step
+-- (`goes-word`, `goes-link`), and a chain holds exactly if it can go on after its first word (`goes-first`).
 use Prim.Native.Nat.{ℕ, zero, suc, _+_, _-_}
 use native.Mathlib.Omega.{arith}
 use mathlib.Core.Path.{_≡_, refl, sym, ap, _∙_, subst}
@@ -7,17 +7,18 @@ use mathlib.Core.Bool.{Bool, true}
 use mathlib.Core.Logic.{_↔_, ⊎-elim}
 use mathlib.Core.List.{List, [], _∷_, List·Memᴰ, List·Memᴰ·head, List·Memᴰ·tail, List·Memᴰ·not-nil, List·Memᴰ·cases-cons}
 use lib.ListN.{length, drop}
-use Rattle.lexer.specs.Token.{QueryWord, Phrase, Node, allows}
+use Rattle.common.proofs.Lists.{head-same, drop-inside}
+use Rattle.common.specs.Bits.{contains}
+use Rattle.lexer.specs.Token.{QueryWord, Phrase, Node}
 use Rattle.query.specs.Tree.{Link, Chain}
 use Rattle.meaning.specs.Satisfies.{Standing, Occurrence, Consecutive, Occurs, distanceOf, Chosen, ChainHolds}
 use Rattle.row.specs.Row.{Hit, StandsIn}
 use Rattle.row.specs.Walk.{Spot, spot, candidates}
 use Rattle.row.proofs.Candidates.{candidate-in}
 use Rattle.chain.specs.Chains.{RowFits, Agrees}
-use Rattle.chain.specs.Reaching.{marked, Nth, SomeAllowed, Steps}
-use Rattle.chain.specs.Going.{Ahead, GoesOn, Inside}
+use Rattle.chain.specs.Reaching.{isMarked, Nth, SomeAllowed, Steps}
+use Rattle.chain.specs.Going.{ChainAhead, GoesOn, InsideColumns}
 use Rattle.chain.specs.declared.Window.{Window}
-use Rattle.chain.proofs.General.{head-same, drop-inside}
 use Rattle.chain.proofs.Nodes.{word-at}
 
 -- ---- numbered candidates
@@ -63,9 +64,9 @@ chosen-moved stands todo column first first′ last last′ e f h =
     (subst (λ (n : ℕ). Chosen stands (record { column = column; first = n; last = last }) todo) e h)
 
 module _ (stands : Standing) (p : Phrase) (w : QueryWord) (ws : List QueryWord) (is : p .words ≡ w ∷ ws) (todo : List Link) where
-  -- an occurrence of a phrase, and what is chosen behind it
+  -- an occurrence of a phrase, and what is chosen after it
   pub begin-of : (o : Occurrence) → Occurs stands p o → Chosen stands o todo
-      → stands w (o .column) (o .first) × Ahead stands ws todo 1 (o .column) (o .first)
+      → stands w (o .column) (o .first) × ChainAhead stands ws todo 1 (o .column) (o .first)
   begin-of o h k =
       let c = subst (λ (l : List QueryWord). Consecutive stands l (o .column) (o .first)) is (h .consecutive) in
       let e = h .ends ∙ ap (λ (l : List QueryWord). o .first + length l) is in (
@@ -76,7 +77,7 @@ module _ (stands : Standing) (p : Phrase) (w : QueryWord) (ws : List QueryWord) 
   abbrev pub beginning : ℕ → ℕ → Occurrence
   beginning column first = record { column = column; first = first; last = first + length ws }
 
-  pub of-begin : (column first : ℕ) → allows (p .columns) column ≡ true → stands w column first → Ahead stands ws todo 1 column first
+  pub of-begin : (column first : ℕ) → contains (p .columns) column ≡ true → stands w column first → ChainAhead stands ws todo 1 column first
       → Occurs stands p (beginning column first) × Chosen stands (beginning column first) todo
   of-begin column first a s h = (
     record {
@@ -91,7 +92,7 @@ module _ (stands : Standing) (p : Phrase) (w : QueryWord) (ws : List QueryWord) 
 
 module _ (leaves starts masks : List ℕ) (stands : Standing) (nodes : List Node) (hits : List Hit) (agrees : Agrees stands nodes hits) (row : RowFits leaves starts masks hits)
     (at : ℕ) (n : Node) (rest : List Node) (here : drop at nodes ≡ n ∷ rest) (c : Chain) (ws : List QueryWord) (is : c .first .words ≡ n .word ∷ ws) where
-  pub goes-first : ChainHolds stands c ↔ GoesOn stands ws (c .links) 1 (λ j column. allows (c .first .columns) column) (candidates at hits)
+  pub goes-first : ChainHolds stands c ↔ GoesOn stands ws (c .links) 1 (λ j column. contains (c .first .columns) column) (candidates at hits)
   goes-first = (
     λ h.
         let o = h .0 in
@@ -108,7 +109,7 @@ module _ (leaves starts masks : List ℕ) (stands : Standing) (nodes : List Node
 
 -- a chain of one word
 pub goes-single : (stands : Standing) (ws : List QueryWord) (todo : List Link) (set : ℕ) (cs : List Spot) → length ws ≡ 0 → todo ≡ []
-    → SomeAllowed cs set ↔ GoesOn stands ws todo 1 (λ j column. allows set column) cs
+    → SomeAllowed cs set ↔ GoesOn stands ws todo 1 (λ j column. contains set column) cs
 goes-single stands [] todo set cs e f = (
   λ h. let k = mem-nth cs (h .0) (h .1) in (k .0, h .0, k .1, h .2, (tt, subst (Chosen stands _) (sym f) tt)),
   λ h. (h .1, nth-mem cs (h .0) (h .1) (h .2), h .3),
@@ -121,9 +122,9 @@ module _ (leaves starts masks : List ℕ) (stands : Standing) (nodes : List Node
     (at : ℕ) (n : Node) (rest : List Node) (here : drop at nodes ≡ n ∷ rest) (set : ℕ) (t : Window) (source : ℕ → ℕ → Bool) (marks : List ℕ) (r : Bool)
     (steps : Steps hits at set t source marks r) (size : ℕ) where
   -- the next word of an operand
-  pub goes-word : (ws : List QueryWord) (todo : List Link) → t .back ≡ 1 → t .ahead ≡ 0 → Inside set source (candidates (t .word) hits)
+  pub goes-word : (ws : List QueryWord) (todo : List Link) → t .back ≡ 1 → t .ahead ≡ 0 → InsideColumns set source (candidates (t .word) hits)
       → GoesOn stands (n .word ∷ ws) todo size source (candidates (t .word) hits)
-      ↔ GoesOn stands ws todo (suc size) (λ j column. marked marks j) (candidates at hits)
+      ↔ GoesOn stands ws todo (suc size) (λ j column. isMarked marks j) (candidates at hits)
   goes-word ws todo b a inside = (
     λ h.
         let s = h .1 in
@@ -131,15 +132,15 @@ module _ (leaves starts masks : List ℕ) (stands : Standing) (nodes : List Node
           k .0,
           spot (s .column) (suc (s .position)),
           k .1,
-          steps .marks-tell (k .0) (s .column) (suc (s .position)) (k .1) .1 (
+          steps .marks-are (k .0) (s .column) (suc (s .position)) (k .1) .1 (
             inside (h .0) s (h .2) (h .3),
             record {
               number = h .0;
               place = s .position;
               nth = h .2;
               is-source = h .3;
-              not-behind = omega arith;
-              not-ahead = omega arith;
+              within-back = omega arith;
+              within-ahead = omega arith;
             },
           ),
           (
@@ -149,8 +150,8 @@ module _ (leaves starts masks : List ℕ) (stands : Standing) (nodes : List Node
         ),
     λ h.
         let s = h .1 in
-        let m = steps .marks-tell (h .0) (s .column) (s .position) (h .2) .0 (h .3) .1 in
-        let e : s .position ≡ suc (m .place) = omega (arith, m .not-behind, m .not-ahead) in (
+        let m = steps .marks-are (h .0) (s .column) (s .position) (h .2) .0 (h .3) .1 in
+        let e : s .position ≡ suc (m .place) = omega (arith, m .within-back, m .within-ahead) in (
           m .number,
           spot (s .column) (m .place),
           m .nth,
@@ -169,7 +170,7 @@ module _ (leaves starts masks : List ℕ) (stands : Standing) (nodes : List Node
   pub goes-link : (l : Link) (ws : List QueryWord) (todo : List Link) → l .phrase .words ≡ n .word ∷ ws → set ≡ l .phrase .columns
       → t .back ≡ 1 + distanceOf (l .distance) → t .ahead ≡ size + suc (length ws) + distanceOf (l .distance)
       → GoesOn stands [] (l ∷ todo) size source (candidates (t .word) hits)
-      ↔ GoesOn stands ws todo 1 (λ j column. marked marks j) (candidates at hits)
+      ↔ GoesOn stands ws todo 1 (λ j column. isMarked marks j) (candidates at hits)
   goes-link l ws todo is columns b a = (
     λ h.
         let s = h .1 in
@@ -184,27 +185,27 @@ module _ (leaves starts masks : List ℕ) (stands : Standing) (nodes : List Node
           k .0,
           spot (o .column) (o .first),
           k .1,
-          steps .marks-tell (k .0) (o .column) (o .first) (k .1) .1 (
-            subst (λ (x : ℕ). allows x (o .column) ≡ true) (sym columns) (occurs .allowed),
+          steps .marks-are (k .0) (o .column) (o .first) (k .1) .1 (
+            subst (λ (x : ℕ). contains x (o .column) ≡ true) (sym columns) (occurs .allowed),
             record {
               number = h .0;
               place = s .position;
               nth = subst (λ (x : ℕ). Nth (candidates (t .word) hits) (h .0) (spot x (s .position))) (near .same-column) (h .2);
               is-source = subst (λ (x : ℕ). source (h .0) x ≡ true) (near .same-column) (h .3);
-              not-behind = omega arith;
-              not-ahead = omega arith;
+              within-back = omega arith;
+              within-ahead = omega arith;
             },
           ),
           g .1,
         ),
     λ h.
         let s = h .1 in
-        let told = steps .marks-tell (h .0) (s .column) (s .position) (h .2) .0 (h .3) in
+        let told = steps .marks-are (h .0) (s .column) (s .position) (h .2) .0 (h .3) in
         let m = told .1 in
-        let behind = m .not-behind in
-        let ahead = m .not-ahead in
+        let behind = m .within-back in
+        let ahead = m .within-ahead in
         let g =
-        of-begin stands (l .phrase) (n .word) ws is todo (s .column) (s .position) (subst (λ (x : ℕ). allows x (s .column) ≡ true) columns (told .0))
+        of-begin stands (l .phrase) (n .word) ws is todo (s .column) (s .position) (subst (λ (x : ℕ). contains x (s .column) ≡ true) columns (told .0))
         (of-candidate leaves starts masks stands nodes hits agrees row at n rest here (h .0) s (h .2)) (h .4) in (
           m .number,
           spot (s .column) (m .place),

@@ -9,9 +9,8 @@ use lib.ListN.{length, getD, set}
 use lib.Seq.{getD-set-same, getD-set-other}
 use lib.Dec.{ltb}
 use borrow.Author.Tests.{ltb-true, lt-ltb}
-use Rattle.common.proofs.Cases.{split}
+use Rattle.common.proofs.Cases.{split, fails-exactly}
 use Rattle.chain.specs.Keys.{Ordered, Bound, SomeKey, Inserts}
-use Rattle.chain.proofs.General.{never}
 
 pub ordered-none : (keys : List ℕ) → Ordered keys 0
 ordered-none keys a b h l = absurd (omega arith)
@@ -46,21 +45,21 @@ module _ (keys : List ℕ) (count key : ℕ) where
 
 module _ (keys : List ℕ) (count low limit : ℕ) where
   pub some-empty : count ≡ 0 → (false ≡ true) ↔ SomeKey keys count low limit
-  some-empty e = never (λ s. omega (arith, s .1))
+  some-empty e = fails-exactly (λ s. omega (arith, s .1))
 
   module _ (ordered : Ordered keys count) where
     pub some-below : getD keys (count - 1) 0 < low → (false ≡ true) ↔ SomeKey keys count low limit
-    some-below h = never (λ s. let l = s .1 in let o = ordered (s .0) (count - 1) (omega arith) (omega arith) in omega (arith, s .2))
+    some-below h = fails-exactly (λ s. let l = s .1 in let o = ordered (s .0) (count - 1) (omega arith) (omega arith) in omega (arith, s .2))
 
     pub some-above : limit ≤ getD keys 0 0 → (false ≡ true) ↔ SomeKey keys count low limit
-    some-above h = never (λ s. let o = ordered 0 (s .0) (omega arith) (s .1) in omega (arith, s .3))
+    some-above h = fails-exactly (λ s. let o = ordered 0 (s .0) (omega arith) (s .1) in omega (arith, s .3))
 
     module _ (at : ℕ) (b : Bound keys count low at) where
       at-most : (a : ℕ) → low ≤ getD keys a 0 → at ≤ a
       at-most a h = split a at (λ l. let q = b .below a l in absurd (omega arith)) (λ l. l)
 
       pub some-behind : count ≤ at → (false ≡ true) ↔ SomeKey keys count low limit
-      some-behind h = never (λ s. let l = at-most (s .0) (s .2) in omega (arith, s .1))
+      some-behind h = fails-exactly (λ s. let l = at-most (s .0) (s .2) in omega (arith, s .1))
 
       pub some-here : at < count → (ltb (getD keys at 0) limit ≡ true) ↔ SomeKey keys count low limit
       some-here h = (

@@ -6,33 +6,18 @@ use mathlib.Core.Bool.{true, false}
 use mathlib.Core.List.{List, [], _∷_, _++_}
 use lib.ListN.{length, getD, drop}
 use Rattle.common.specs.Bytes.{within, span}
+use Rattle.common.proofs.Lists.{head-same, drop-inside, drop-next}
 use Rattle.lexer.specs.Token.{QueryWord, Distance, bare, written, Tie, begins, continues, nears, Node, phraseNodes, nodeMap, tieNumber, tieDistance}
+use Rattle.lexer.proofs.Nodes.{length-nodeMap, drop-nodeMap, getD-nodeMap, length-phraseNodes}
 use Rattle.query.specs.Tree.{Link, Chain, linkNodes, chainNodes}
 use Rattle.meaning.specs.Satisfies.{distanceOf}
-use Rattle.chain.specs.Chains.{WordsAre, wordAt, FilledLinks, FilledChain, Begins, runEnd, chainEnd}
+use Rattle.chain.specs.Chains.{TiesAre, nodeWord, FilledLinks, FilledChain, BeginsChain, runEnd, chainEnd}
 use Rattle.chain.specs.Reaching.{distanceAt}
-use Rattle.chain.proofs.General.{head-same, drop-inside, drop-next}
 use Rattle.chain.proofs.Ends.{run-begins}
 
 -- ---- what stands at a number
 
-pub length-nodeMap : (f : Node → ℕ) (nodes : List Node) → length (nodeMap f nodes) ≡ length nodes
-length-nodeMap f [] = refl
-length-nodeMap f (n ∷ nodes) = ap suc (length-nodeMap f nodes)
-
-drop-nodeMap : (f : Node → ℕ) (k : ℕ) (nodes : List Node) → drop k (nodeMap f nodes) ≡ nodeMap f (drop k nodes)
-drop-nodeMap f zero nodes = refl
-drop-nodeMap f (suc k) [] = refl
-drop-nodeMap f (suc k) (n ∷ nodes) = drop-nodeMap f k nodes
-
-getD-nodeMap : (f : Node → ℕ) (k : ℕ) (nodes : List Node) (n : Node) (rest : List Node) → drop k nodes ≡ n ∷ rest
-    → getD (nodeMap f nodes) k 0 ≡ f n
-getD-nodeMap f zero [] n rest e = absurd (omega (arith, drop-inside [] 0 n rest e))
-getD-nodeMap f zero (m ∷ nodes) n rest e = ap f (head-same e)
-getD-nodeMap f (suc k) [] n rest e = absurd (omega (arith, drop-inside [] (suc k) n rest e))
-getD-nodeMap f (suc k) (m ∷ nodes) n rest e = getD-nodeMap f k nodes n rest e
-
-pub word-at : (k : ℕ) (nodes : List Node) (n : Node) (rest : List Node) → drop k nodes ≡ n ∷ rest → wordAt nodes k ≡ n .word
+pub word-at : (k : ℕ) (nodes : List Node) (n : Node) (rest : List Node) → drop k nodes ≡ n ∷ rest → nodeWord nodes k ≡ n .word
 word-at zero [] n rest e = absurd (omega (arith, drop-inside [] 0 n rest e))
 word-at zero (m ∷ nodes) n rest e = ap (λ (n : Node). n .word) (head-same e)
 word-at (suc k) [] n rest e = absurd (omega (arith, drop-inside [] (suc k) n rest e))
@@ -49,21 +34,21 @@ Tied most [] = Unit {0}
 Tied most (n ∷ nodes) = (within 1 most (tieOf n) ≡ true) × Tied most nodes
 
 -- no word comes, or one that is not
-abbrev pub Stops : ℕ → List Node → Type 0
-Stops most [] = Unit {0}
-Stops most (n ∷ nodes) = within 1 most (tieOf n) ≡ false
+abbrev pub StopsTied : ℕ → List Node → Type 0
+StopsTied most [] = Unit {0}
+StopsTied most (n ∷ nodes) = within 1 most (tieOf n) ≡ false
 
 tied-append : (most : ℕ) (xs ys : List Node) → Tied most xs → Tied most ys → Tied most (xs ++ ys)
 tied-append most [] ys t u = u
 tied-append most (x ∷ xs) ys t u = (t .0, tied-append most xs ys (t .1) u)
 
-span-tied : (most : ℕ) (xs ys : List Node) → Tied most xs → Stops most ys → span (within 1 most) (nodeMap tieOf (xs ++ ys)) ≡ length xs
+span-tied : (most : ℕ) (xs ys : List Node) → Tied most xs → StopsTied most ys → span (within 1 most) (nodeMap tieOf (xs ++ ys)) ≡ length xs
 unfolding span
 span-tied most [] [] t s = refl
 span-tied most [] (y ∷ ys) t s = simp s
 span-tied most (x ∷ xs) ys t s = simp (t .0) (ap suc (span-tied most xs ys (t .1) s))
 
-run-law : (most : ℕ) (nodes : List Node) (from : ℕ) (x : Node) (xs ys : List Node) → drop from nodes ≡ x ∷ (xs ++ ys) → Tied most xs → Stops most ys
+run-law : (most : ℕ) (nodes : List Node) (from : ℕ) (x : Node) (xs ys : List Node) → drop from nodes ≡ x ∷ (xs ++ ys) → Tied most xs → StopsTied most ys
     → runEnd most (nodeMap tieOf nodes) from ≡ from + suc (length xs)
 run-law most nodes from x xs ys e t s =
     let i : from < length (nodeMap tieOf nodes) = rw length-nodeMap (drop-inside nodes from x (xs ++ ys) e) in
@@ -73,10 +58,6 @@ run-law most nodes from x xs ys e t s =
     run-begins most (nodeMap tieOf nodes) from i ∙ ap (λ (n : ℕ). from + 1 + n) q ∙ omega arith
 
 -- ---- the words of phrases and links
-
-pub length-phraseNodes : (t : Tie) (columns : ℕ) (ws : List QueryWord) → length (phraseNodes t columns ws) ≡ length ws
-length-phraseNodes t columns [] = refl
-length-phraseNodes t columns (w ∷ ws) = ap suc (length-phraseNodes continues columns ws)
 
 phrase-tied : (most : ℕ) (t : Tie) (columns : ℕ) (ws : List QueryWord) → within 1 most 1 ≡ true → within 1 most (tieNumber t) ≡ true
     → Tied most (phraseNodes t columns ws)
@@ -102,30 +83,30 @@ links-tied (l ∷ ls) =
     (phrase-tied 3 (nears (l .distance)) (l .phrase .columns) (l .phrase .words) refl (nears-within (l .distance)))
     (links-tied ls)
 
-begins-stop : (most : ℕ) (nodes : List Node) → Begins nodes → Stops most nodes
+begins-stop : (most : ℕ) (nodes : List Node) → BeginsChain nodes → StopsTied most nodes
 begins-stop most [] b = tt
 begins-stop most (n ∷ nodes) b = rw b refl
 
--- behind a phrase comes a NEAR, or a word that begins an operand
-pub links-stop : (ls : List Link) (rest : List Node) → FilledLinks ls → Begins rest → Stops 1 (linkNodes ls ++ rest)
+-- after a phrase comes a NEAR, or a word that begins an operand
+pub links-stop : (ls : List Link) (rest : List Node) → FilledLinks ls → BeginsChain rest → StopsTied 1 (linkNodes ls ++ rest)
 links-stop [] rest f b = begins-stop 1 rest b
 links-stop (l ∷ ls) rest f b = go (l .phrase .words) (f .0)
   where
-    go : (ws : List QueryWord) → 0 < length ws → Stops 1 ((phraseNodes (nears (l .distance)) (l .phrase .columns) ws ++ linkNodes ls) ++ rest)
+    go : (ws : List QueryWord) → 0 < length ws → StopsTied 1 ((phraseNodes (nears (l .distance)) (l .phrase .columns) ws ++ linkNodes ls) ++ rest)
     go [] h = absurd (omega arith)
     go (w ∷ ws) h = nears-beyond (l .distance)
 
 -- ---- where phrases and chains end
 
 pub phrase-end : (nodes : List Node) (from : ℕ) (t : Tie) (columns : ℕ) (ws : List QueryWord) (ys : List Node)
-    → 0 < length ws → drop from nodes ≡ phraseNodes t columns ws ++ ys → Stops 1 ys
+    → 0 < length ws → drop from nodes ≡ phraseNodes t columns ws ++ ys → StopsTied 1 ys
     → runEnd 1 (nodeMap tieOf nodes) from ≡ from + length ws
 phrase-end nodes from t columns [] ys h e s = absurd (omega arith)
 phrase-end nodes from t columns (w ∷ ws) ys h e s =
     run-law 1 nodes from (record { tie = t; word = w; columns = columns }) (phraseNodes continues columns ws) ys e (phrase-tied 1 continues columns ws refl refl) s
     ∙ ap (λ (n : ℕ). from + suc n) (length-phraseNodes continues columns ws)
 
-pub chain-end : (nodes : List Node) (from : ℕ) (c : Chain) (rest : List Node) → FilledChain c → drop from nodes ≡ chainNodes c ++ rest → Begins rest
+pub chain-end : (nodes : List Node) (from : ℕ) (c : Chain) (rest : List Node) → FilledChain c → drop from nodes ≡ chainNodes c ++ rest → BeginsChain rest
     → chainEnd (nodeMap tieOf nodes) from ≡ from + length (chainNodes c)
 chain-end nodes from c rest f e b = go (c .first .words) (f .0) e
   where
@@ -139,7 +120,7 @@ chain-end nodes from c rest f e b = go (c .first .words) (f .0) e
 
 -- ---- what the arrays say of a phrase's first word
 
-module _ (nodes : List Node) (ties distances columns : List ℕ) (words : WordsAre nodes ties distances columns) where
+module _ (nodes : List Node) (ties distances columns : List ℕ) (words : TiesAre nodes ties distances columns) where
   pub length-ties : length ties ≡ length nodes
   length-ties = ap length (words .ties-are) ∙ length-nodeMap tieOf nodes
 

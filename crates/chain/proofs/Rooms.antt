@@ -3,11 +3,11 @@ use mathlib.Core.Path.{refl}
 use mathlib.Core.Bool.{false}
 use mathlib.Core.List.{List}
 use Prim.Native.Nat.{ℕ}
-use Rattle.row.proofs.Frames.{kept-all, kept-again}
-use Rattle.chain.specs.Chains.{markWords, Refused, RoomsKept}
+use Rattle.common.proofs.Frames.{kept-all, kept-again}
+use Rattle.chain.specs.Chains.{markWords, NotEvaluated, RoomsKept}
 
 module _ (marks spare : List ℕ) where
-  pub rooms-refused : Refused marks marks spare spare false
+  pub rooms-refused : NotEvaluated marks marks spare spare false
   rooms-refused = record { answer = refl; marks-same = refl; spare-same = refl }
 
   pub rooms-all : RoomsKept marks marks spare spare

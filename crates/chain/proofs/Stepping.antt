@@ -9,7 +9,7 @@ use lib.ListN.{length, getD, take, drop}
 use Rattle.common.specs.Pick.{pick}
 use Rattle.common.proofs.Cases.{false-not-true, split}
 use Rattle.doclist.specs.Doclist.{positionLimit}
-use Rattle.lexer.specs.Token.{allows}
+use Rattle.common.specs.Bits.{contains}
 use Rattle.row.specs.Row.{Hit, bodiesSize}
 use Rattle.row.specs.Walk.{Spot, spot, candidates, AheadOf, Finds}
 use Rattle.row.specs.declared.Place.{Place}
@@ -17,16 +17,16 @@ use Rattle.row.specs.declared.Found.{Found}
 use Rattle.row.specs.declared.Found.the-variants.{At, Done}
 use Rattle.chain.specs.Chains.{maxCandidates, bitWords}
 use Rattle.chain.specs.Keys.{keyOf, Ordered, SomeKey, Inserts}
-use Rattle.chain.specs.Reaching.{oldOf, Nth, sourceOf, NearSource, Steps, InWindow, Told, Marks, Pushes}
+use Rattle.chain.specs.Reaching.{oldOf, Nth, sourceOf, NearSource, Steps, InWindow, ReachedBy, Marks, Pushes}
 use Rattle.chain.specs.declared.Window.{Window}
 use Rattle.chain.proofs.Keys.{some-none}
 use Rattle.chain.proofs.Windows.{limitOf, key-in}
-use Rattle.chain.proofs.Walks.{Walking, walking-first, walking-done, walking-nth, walking-room, walking-next, nth-same, nth-inside}
+use Rattle.chain.proofs.Walks.{WalkingRow, walking-first, walking-done, walking-nth, walking-room, walking-next, nth-same, nth-inside}
 
 -- ---- one key more
 
 module _ (keys : List ℕ) (count : ℕ) (wanted : Bool) (columns column position : ℕ) where
-  pub pushes-not : Ordered keys count → (wanted ≡ false) ⊎ (allows columns column ≡ false) → Pushes keys count wanted columns column position keys count
+  pub pushes-not : Ordered keys count → (wanted ≡ false) ⊎ (contains columns column ≡ false) → Pushes keys count wanted columns column position keys count
   pushes-not ordered out =
       record {
         ordered = ordered;
@@ -40,7 +40,7 @@ module _ (keys : List ℕ) (count : ℕ) (wanted : Bool) (columns column positio
         );
       }
 
-  pub pushes-one : (put : List ℕ) → wanted ≡ true → allows columns column ≡ true → Inserts keys put count (keyOf column position)
+  pub pushes-one : (put : List ℕ) → wanted ≡ true → contains columns column ≡ true → Inserts keys put count (keyOf column position)
       → Pushes keys count wanted columns column position put (count + 1)
   pushes-one put w a i =
       record {
@@ -53,7 +53,7 @@ module _ (keys : List ℕ) (count : ℕ) (wanted : Bool) (columns column positio
 
 -- ---- all sources
 
--- the keys lie behind the bits
+-- the keys lie after the bits
 abbrev pub keysOf : List ℕ → List ℕ
 keysOf before = take (length before - bitWords) (drop bitWords before)
 
@@ -62,16 +62,16 @@ pub source-same : (first : Bool) (set : ℕ) (before room : List ℕ) (j column 
     → ((n : ℕ) → n < bitWords → getD room n 0 ≡ getD before n 0)
     → r ≡ sourceOf first set before j column
 source-same first set before room j column r e h same =
-    e ∙ ap (λ (n : ℕ). pick first (allows set column) (allows n (j % 64))) (same (j / 64) (omega arith))
+    e ∙ ap (λ (n : ℕ). pick first (contains set column) (contains n (j % 64))) (same (j / 64) (omega arith))
 
 -- a source that was passed lies in the window at a position
 abbrev NearPassed : (ℕ → ℕ → Bool) → List Hit → Window → ℕ → ℕ → ℕ → Type 0
 NearPassed source hits t j column position = (m : NearSource source (candidates (t .word) hits) t column position) × (m .number < j)
 
 pub record Stepping (leaves starts masks : List ℕ) (i columns : ℕ) (t : Window) (source : ℕ → ℕ → Bool) (hits : List Hit) (keys : List ℕ) (count : ℕ) (fresh : Bool) (marks : List ℕ) (j : ℕ) (r : Found) : Type 0 where
-  pub walk : Walking leaves starts masks (t .word) hits j r
+  pub walk : WalkingRow leaves starts masks (t .word) hits j r
   pub tell : (k column position : ℕ) → Nth (candidates i hits) k (spot column position) → position < positionLimit
-      → Told (oldOf fresh marks k) columns t keys count column position ↔ ((allows columns column ≡ true) × NearPassed source hits t j column position)
+      → ReachedBy (oldOf fresh marks k) columns t keys count column position ↔ ((contains columns column ≡ true) × NearPassed source hits t j column position)
 
 module _ (leaves starts masks : List ℕ) (i columns : ℕ) (t : Window) (source : ℕ → ℕ → Bool) (hits : List Hit) where
   pub stepping-first : (keys marks : List ℕ) (r : Found) → Finds leaves starts masks (t .word) (candidates (t .word) hits) r
@@ -95,7 +95,7 @@ module _ (leaves starts masks : List ℕ) (i columns : ℕ) (t : Window) (source
           walk = n .walk;
           tell = λ k column position q small.
               let x = n .tell k column position q small in
-              let y = m .marks-tell k column position q in (
+              let y = m .marks-are k column position q in (
                 λ h. ⊎-elim (λ e. x .0 (y .0 e)) (λ z. some-none keys _ _ (z .1)) h,
                 λ h. inl (y .1 (x .1 h)),
               );
@@ -115,9 +115,9 @@ module _ (leaves starts masks : List ℕ) (i columns : ℕ) (t : Window) (source
         let d = walking-done leaves starts masks (t .word) hits j r (n .walk) e in
         record {
           small = m .small;
-          marks-tell = λ k column position q.
+          marks-are = λ k column position q.
               let x = n .tell k column position q (m .small k column position q) in
-              let y = m .marks-tell k column position q in (
+              let y = m .marks-are k column position q in (
                 λ h. let z = x .0 (y .0 h) in (z .0, z .1 .0),
                 λ h.
                     y .1
@@ -137,8 +137,8 @@ module _ (leaves starts masks : List ℕ) (i columns : ℕ) (t : Window) (source
       module _ (low : p .position < positionLimit) (wanted : Bool) (is : wanted ≡ source j (p .column)) (put : List ℕ) (more : ℕ)
           (pushes : Pushes keys count wanted columns (p .column) (p .position) put more) where
         -- the key in a window is a source that was passed
-        passed-of : (column position : ℕ) → position < positionLimit → allows columns column ≡ true
-            → ((allows columns column ≡ true) × InWindow t keys count column position → NearPassed source hits t j column position)
+        passed-of : (column position : ℕ) → position < positionLimit → contains columns column ≡ true
+            → ((contains columns column ≡ true) × InWindow t keys count column position → NearPassed source hits t j column position)
             → InWindow t put more column position → NearPassed source hits t (j + 1) column position
         passed-of column position small a old h =
             ⊎-elim
@@ -154,14 +154,14 @@ module _ (leaves starts masks : List ℕ) (i columns : ℕ) (t : Window) (source
                 place = p .position;
                 nth = subst (λ (c : ℕ). Nth (candidates (t .word) hits) j (spot c (p .position))) (x .0) here-nth;
                 is-source = ap (source j) (sym (x .0)) ∙ sym is ∙ w;
-                not-behind = x .1;
-                not-ahead = x .2;
+                within-back = x .1;
+                within-ahead = x .2;
               },
               omega arith,
             )
 
         -- and a source that was passed, if it was not told before, is a key in the window
-        of-passed : (column position : ℕ) → position < positionLimit → allows columns column ≡ true
+        of-passed : (column position : ℕ) → position < positionLimit → contains columns column ≡ true
             → (m : NearSource source (candidates (t .word) hits) t column position) → m .number ≡ j → InWindow t put more column position
         of-passed column position small a m q =
             let s : spot column (m .place) ≡ spot (p .column) (p .position) =
@@ -171,11 +171,11 @@ module _ (leaves starts masks : List ℕ) (i columns : ℕ) (t : Window) (source
             let f : m .place ≡ p .position = ap (λ (x : Spot). x .position) s in
             let k =
             key-in (t .back) (t .ahead) column position (p .column) (p .position) small low .1
-            (sym c, omega (arith, m .not-behind), omega (arith, m .not-ahead)) in
+            (sym c, omega (arith, m .within-back), omega (arith, m .within-ahead)) in
             pushes .has (keyOf column (position - t .back)) (keyOf column (limitOf (position + t .ahead))) .1
             (inr (
               is ∙ ap₂ source (sym q) (sym c) ∙ m .is-source,
-              subst (λ (x : ℕ). allows columns x ≡ true) c a,
+              subst (λ (x : ℕ). contains columns x ≡ true) c a,
               k .0,
               k .1,
             ))

@@ -6,8 +6,9 @@ use mathlib.Core.Bool.{true, false}
 use mathlib.Core.Logic.{_↔_, ⊎-elim}
 use mathlib.Core.List.{List, List·Memᴰ, List·Memᴰ·head, List·Memᴰ·tail, List·Memᴰ·not-nil, List·Memᴰ·cases-cons}
 use lib.ListN.{length, drop}
-use Rattle.common.proofs.Cases.{false-not-true}
-use Rattle.lexer.specs.Token.{allows}
+use Rattle.common.proofs.Cases.{false-not-true, fails-exactly, passes-exactly}
+use Rattle.common.proofs.Lists.{head-same, drop-inside, drop-next, drop-outside}
+use Rattle.common.specs.Bits.{contains}
 use Rattle.row.specs.Row.{Hit, bodiesSize}
 use Rattle.row.specs.Walk.{Spot, spot, candidates, AheadOf, Finds}
 use Rattle.row.specs.declared.Place.{Place}
@@ -17,35 +18,34 @@ use Rattle.row.proofs.Rows.{finds-done, finds-at}
 use Rattle.row.proofs.Candidates.{candidates-count}
 use Rattle.chain.specs.Chains.{maxCandidates}
 use Rattle.chain.specs.Reaching.{Nth, SomeAllowed}
-use Rattle.chain.proofs.General.{head-same, drop-inside, drop-next, drop-outside, never, always}
 
 -- ---- whether a word stands in one of the columns
 
-pub record Seeking (leaves starts masks : List ℕ) (i columns : ℕ) (hits : List Hit) (r : Found) : Type 0 where
+pub record SeekingColumn (leaves starts masks : List ℕ) (i columns : ℕ) (hits : List Hit) (r : Found) : Type 0 where
   pub ahead : List Spot
   pub finds : Finds leaves starts masks i ahead r
   pub decides : SomeAllowed (candidates i hits) columns ↔ SomeAllowed ahead columns
 
 module _ (leaves starts masks : List ℕ) (i columns : ℕ) (hits : List Hit) where
-  pub seeking-first : (r : Found) → Finds leaves starts masks i (candidates i hits) r → Seeking leaves starts masks i columns hits r
+  pub seeking-first : (r : Found) → Finds leaves starts masks i (candidates i hits) r → SeekingColumn leaves starts masks i columns hits r
   seeking-first r f = record { ahead = candidates i hits; finds = f; decides = (λ h. h, λ h. h) }
 
-  module _ (r : Found) (s : Seeking leaves starts masks i columns hits r) where
+  module _ (r : Found) (s : SeekingColumn leaves starts masks i columns hits r) where
     pub seeking-done : r ≡ Done → (false ≡ true) ↔ SomeAllowed (candidates i hits) columns
     seeking-done e =
         let n = finds-done leaves starts masks i (s .ahead) r (s .finds) e in
-        never (λ h. let m = s .decides .0 h in List·Memᴰ·not-nil (subst (λ (l : List Spot). List·Memᴰ (m .0) l) n (m .1)))
+        fails-exactly (λ h. let m = s .decides .0 h in List·Memᴰ·not-nil (subst (λ (l : List Spot). List·Memᴰ (m .0) l) n (m .1)))
 
     module _ (p : Place) (e : r ≡ At p) where
-      pub seeking-here : allows columns (p .column) ≡ true → (true ≡ true) ↔ SomeAllowed (candidates i hits) columns
+      pub seeking-here : contains columns (p .column) ≡ true → (true ≡ true) ↔ SomeAllowed (candidates i hits) columns
       seeking-here a =
           let f = finds-at leaves starts masks i (s .ahead) r p (s .finds) e in
           let x : Spot = spot (p .column) (p .position) in
-          always (s .decides .1 (x, subst (λ (l : List Spot). List·Memᴰ x l) (sym (f .1)) (List·Memᴰ·head refl), a))
+          passes-exactly (s .decides .1 (x, subst (λ (l : List Spot). List·Memᴰ x l) (sym (f .1)) (List·Memᴰ·head refl), a))
 
-      pub seeking-next : (n : Found) → allows columns (p .column) ≡ false
+      pub seeking-next : (n : Found) → contains columns (p .column) ≡ false
           → ((ahead : List Spot) → AheadOf leaves starts masks i p ahead → Finds leaves starts masks i ahead n)
-          → Seeking leaves starts masks i columns hits n
+          → SeekingColumn leaves starts masks i columns hits n
       seeking-next n a go =
           let f = finds-at leaves starts masks i (s .ahead) r p (s .finds) e in
           let x : Spot = spot (p .column) (p .position) in
@@ -56,7 +56,7 @@ module _ (leaves starts masks : List ℕ) (i columns : ℕ) (hits : List Hit) wh
               λ h.
                   let m = s .decides .0 h in
                   ⊎-elim
-                  (λ (k : m .0 ≡ x). false-not-true (sym a ∙ ap (λ (y : Spot). allows columns (y .column)) (sym k) ∙ m .2))
+                  (λ (k : m .0 ≡ x). false-not-true (sym a ∙ ap (λ (y : Spot). contains columns (y .column)) (sym k) ∙ m .2))
                   (λ k. (m .0, k, m .2))
                   (List·Memᴰ·cases-cons (subst (λ (l : List Spot). List·Memᴰ (m .0) l) (f .1) (m .1))),
               λ m. s .decides .1 (m .0, subst (λ (l : List Spot). List·Memᴰ (m .0) l) (sym (f .1)) (List·Memᴰ·tail (m .1)), m .2),
@@ -66,16 +66,16 @@ module _ (leaves starts masks : List ℕ) (i columns : ℕ) (hits : List Hit) wh
 -- ---- numbered candidates
 
 -- the candidates from the number j on are ahead
-pub record Walking (leaves starts masks : List ℕ) (i : ℕ) (hits : List Hit) (j : ℕ) (r : Found) : Type 0 where
+pub record WalkingRow (leaves starts masks : List ℕ) (i : ℕ) (hits : List Hit) (j : ℕ) (r : Found) : Type 0 where
   pub ahead : List Spot
   pub finds : Finds leaves starts masks i ahead r
   pub left : drop j (candidates i hits) ≡ ahead
 
 module _ (leaves starts masks : List ℕ) (i : ℕ) (hits : List Hit) where
-  pub walking-first : (r : Found) → Finds leaves starts masks i (candidates i hits) r → Walking leaves starts masks i hits 0 r
+  pub walking-first : (r : Found) → Finds leaves starts masks i (candidates i hits) r → WalkingRow leaves starts masks i hits 0 r
   walking-first r f = record { ahead = candidates i hits; finds = f; left = refl }
 
-  module _ (j : ℕ) (r : Found) (w : Walking leaves starts masks i hits j r) where
+  module _ (j : ℕ) (r : Found) (w : WalkingRow leaves starts masks i hits j r) where
     pub walking-done : r ≡ Done → length (candidates i hits) ≤ j
     walking-done e =
         drop-outside (candidates i hits) j (w .left ∙ finds-done leaves starts masks i (w .ahead) r (w .finds) e)
@@ -95,7 +95,7 @@ module _ (leaves starts masks : List ℕ) (i : ℕ) (hits : List Hit) where
 
       pub walking-next : (n : Found)
           → ((ahead : List Spot) → AheadOf leaves starts masks i p ahead → Finds leaves starts masks i ahead n)
-          → Walking leaves starts masks i hits (j + 1) n
+          → WalkingRow leaves starts masks i hits (j + 1) n
       walking-next n go =
           let f = finds-at leaves starts masks i (w .ahead) r p (w .finds) e in
           record {

@@ -13,10 +13,10 @@ use Rattle.common.proofs.Cases.{split, pick-case}
 use Rattle.doclist.specs.Doclist.{positionLimit}
 use Rattle.chain.specs.Chains.{runEnd}
 use Rattle.chain.specs.Keys.{columnSize, keyOf, SomeKey}
-use Rattle.chain.specs.Reaching.{distanceAt, windowOf, startOf, InWindow}
+use Rattle.chain.specs.Reaching.{distanceAt, windowOf, operandStart, InWindow}
 use Rattle.chain.specs.declared.Window.{Window}
 
--- the window behind NEAR
+-- the window after NEAR
 pub window-near : (ties distances : List ℕ) (from end n next : ℕ) → (getD ties end 0 ≡ 1 → ⊥) → n ≡ distanceAt ties distances end → next ≡ runEnd 1 ties end
     → _≡_ {A = Window} (record { word = end - 1; back = 1 + n; ahead = next - from + n }) (windowOf ties distances from end)
 window-near ties distances from end n next h e f =
@@ -53,6 +53,6 @@ in-window-is t keys count column position low limit r e f h =
     subst (λ (n : ℕ). (r ≡ true) ↔ SomeKey keys count (keyOf column (position - t .back)) (keyOf column n)) f
     (subst (λ (n : ℕ). (r ≡ true) ↔ SomeKey keys count (keyOf column n) (keyOf column limit)) e h)
 
--- an operand does not begin behind its words
-pub start-before : (ties : List ℕ) (from end : ℕ) → from < end → startOf ties from end < end + 1
+-- an operand does not begin after its words
+pub start-before : (ties : List ℕ) (from end : ℕ) → from < end → operandStart ties from end < end + 1
 start-before ties from end h = pick-case (λ (n : ℕ). n < end + 1) (ltb 1 (getD ties end 0)) end from (λ _. omega arith) (λ _. omega arith)

@@ -14,12 +14,12 @@ use Rattle.query.specs.Tree.{Link, Chain, chainNodes}
 use Rattle.meaning.specs.Satisfies.{Live, StandsAt, Standing, ChainHolds}
 use Rattle.row.specs.Row.{Hit, StandsIn, bodiesSize}
 use Rattle.row.specs.Walk.{WholeRow}
-use Rattle.row.specs.Frame.{KeptFrom}
+use Rattle.common.specs.Frame.{KeptFrom}
 
 -- ---- the words of a query
 
 -- the flat arrays of the words
-pub record WordsAre (nodes : List Node) (ties distances columns : List ℕ) : Type 0 where
+pub record TiesAre (nodes : List Node) (ties distances columns : List ℕ) : Type 0 where
   pub ties-are : ties ≡ nodeMap (λ n. tieNumber (n .tie)) nodes
   pub distances-are : distances ≡ nodeMap (λ n. tieDistance (n .tie)) nodes
   pub columns-are : columns ≡ nodeMap (λ n. n .columns) nodes
@@ -28,10 +28,10 @@ abbrev pub noWord : QueryWord
 noWord = record { bytes = []; star = false }
 
 -- the word number i
-abbrev pub wordAt : List Node → ℕ → QueryWord
-wordAt [] i = noWord
-wordAt (n ∷ nodes) zero = n .word
-wordAt (n ∷ nodes) (suc i) = wordAt nodes i
+abbrev pub nodeWord : List Node → ℕ → QueryWord
+nodeWord [] i = noWord
+nodeWord (n ∷ nodes) zero = n .word
+nodeWord (n ∷ nodes) (suc i) = nodeWord nodes i
 
 -- every phrase has a word
 abbrev pub FilledLinks : List Link → Type 0
@@ -42,11 +42,11 @@ abbrev pub FilledChain : Chain → Type 0
 FilledChain c = (0 < length (c .first .words)) × FilledLinks (c .links)
 
 -- no word, or one that begins an operand of AND, OR or NOT
-abbrev pub Begins : List Node → Type 0
-Begins [] = Unit {0}
-Begins (n ∷ nodes) = n .tie ≡ begins
+abbrev pub BeginsChain : List Node → Type 0
+BeginsChain [] = Unit {0}
+BeginsChain (n ∷ nodes) = n .tie ≡ begins
 
--- the first word behind the word `from` that is not tied to the one before by a number from 1 to `most`
+-- the first word after the word `from` that is not tied to the one before by a number from 1 to `most`
 abbrev pub runEnd : ℕ → List ℕ → ℕ → ℕ
 runEnd most ties from = pick (ltb from (length ties)) (from + 1 + span (within 1 most) (drop (from + 1) ties)) from
 
@@ -64,7 +64,7 @@ maxCandidates = 65536
 abbrev pub bitWords : ℕ
 bitWords = 1024
 
--- the bits, and behind them room for some positions
+-- the bits, and after them room for some positions
 abbrev pub markWords : ℕ
 markWords = 2048
 
@@ -76,7 +76,7 @@ pub record RowFits (leaves starts masks : List ℕ) (hits : List Hit) : Type 0 w
 -- the row's hits tell where the query's words stand
 abbrev pub Agrees : Standing → List Node → List Hit → Type 0
 Agrees stands nodes hits =
-    (i : ℕ) → i < length nodes → (column position : ℕ) → StandsIn hits i column position ↔ stands (wordAt nodes i) column position
+    (i : ℕ) → i < length nodes → (column position : ℕ) → StandsIn hits i column position ↔ stands (nodeWord nodes i) column position
 
 -- ---- what is given
 
@@ -84,36 +84,36 @@ Agrees stands nodes hits =
 pub record ChainAt (nodes : List Node) (from : ℕ) (c : Chain) : Type 0 where
   pub rest : List Node
   pub here : drop from nodes ≡ chainNodes c ++ rest
-  pub begins : Begins rest
+  pub begins : BeginsChain rest
   pub filled : FilledChain c
 
 -- the marks have room
-pub record Room (marks spare : List ℕ) : Type 0 where
+pub record MarkRoom (marks spare : List ℕ) : Type 0 where
   pub marks-room : markWords ≤ length marks
   pub spare-room : markWords ≤ length spare
 
 -- whether the chain holds in the row
-abbrev pub Decides : (ties distances columns : List ℕ) (from : ℕ) (leaves starts masks marks spare : List ℕ) → Bool → Type 0
-Decides ties distances columns from leaves starts masks marks spare r =
+abbrev pub DecidesChain : (ties distances columns : List ℕ) (from : ℕ) (leaves starts masks marks spare : List ℕ) → Bool → Type 0
+DecidesChain ties distances columns from leaves starts masks marks spare r =
     (nodes : List Node) (c : Chain) (hits : List Hit) (live : Live) (docid : ℕ)
-    → WordsAre nodes ties distances columns
+    → TiesAre nodes ties distances columns
     → ChainAt nodes from c
     → RowFits leaves starts masks hits
     → Agrees (StandsAt live docid) nodes hits
-    → Room marks spare
+    → MarkRoom marks spare
     → (r ≡ true) ↔ ChainHolds (StandsAt live docid) c
 
 -- ---- whatever the arrays hold
 
 -- the arrays are long enough: for the chain's first word, for the words, and to work in
-pub record Given (ties distances columns : List ℕ) (from : ℕ) (marks spare : List ℕ) : Type 0 where
+pub record ChainLengths (ties distances columns : List ℕ) (from : ℕ) (marks spare : List ℕ) : Type 0 where
   pub inside : from < length ties
   pub distance-room : length ties ≤ length distances
   pub column-room : length ties ≤ length columns
-  pub room : Room marks spare
+  pub room : MarkRoom marks spare
 
 -- the answer is no, and the rooms are as they were
-pub record Refused (marks₀ marks spare₀ spare : List ℕ) (r : Bool) : Type 0 where
+pub record NotEvaluated (marks₀ marks spare₀ spare : List ℕ) (r : Bool) : Type 0 where
   pub answer : r ≡ false
   pub marks-same : marks ≡ marks₀
   pub spare-same : spare ≡ spare₀

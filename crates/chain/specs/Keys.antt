@@ -1,5 +1,5 @@
 -- Positions as numbers, and numbers in order. A position of a row has a key: the positions of a column lie together, in their
--- order, and the columns behind each other. The keys are kept in order, so that those of a window are found by halving.
+-- order, and the columns one after the other. The keys are kept in order, so that those of a window are found by halving.
 use Prim.Native.Nat.{ℕ, _+_, _*_, _^_, _≤_, _<_}
 use mathlib.Core.Logic.{_↔_, _⊎_}
 use mathlib.Core.List.{List}

@@ -12,7 +12,8 @@ use lib.Bits.{bitXor}
 use lib.Dec.{eqb, ltb}
 use Rattle.common.specs.Pick.{pick}
 use Rattle.doclist.specs.Doclist.{positionLimit}
-use Rattle.lexer.specs.Token.{bare, nears, tieNumber, allows}
+use Rattle.common.specs.Bits.{contains}
+use Rattle.lexer.specs.Token.{bare, nears, tieNumber}
 use Rattle.meaning.specs.Satisfies.{bareDistance}
 use Rattle.row.specs.Row.{Hit}
 use Rattle.row.specs.Walk.{Spot, spot, candidates}
@@ -23,16 +24,16 @@ use Rattle.chain.specs.declared.Window.{Window}
 -- ---- marks
 
 -- whether candidate j is marked
-abbrev pub marked : List ℕ → ℕ → Bool
-marked marks j = allows (getD marks (j / 64) 0) (j % 64)
+abbrev pub isMarked : List ℕ → ℕ → Bool
+isMarked marks j = contains (getD marks (j / 64) 0) (j % 64)
 
 -- fresh marks count as clear
 abbrev pub oldOf : Bool → List ℕ → ℕ → Bool
-oldOf fresh marks j = pick fresh false (marked marks j)
+oldOf fresh marks j = pick fresh false (isMarked marks j)
 
 -- a word with bit k set or not
 abbrev pub wordWith : ℕ → ℕ → Bool → ℕ
-wordWith word k b = pick (allows word k) (pick b word (bitXor word (2 ^ k))) (pick b (bitXor word (2 ^ k)) word)
+wordWith word k b = pick (contains word k) (pick b word (bitXor word (2 ^ k))) (pick b (bitXor word (2 ^ k)) word)
 
 -- the marks with candidate j marked or not
 abbrev pub putAt : List ℕ → ℕ → Bool → List ℕ
@@ -46,23 +47,23 @@ Nth cs j s = (rest : List Spot) × (drop j cs ≡ s ∷ rest)
 
 -- some candidate is marked
 abbrev pub SomeMarked : List ℕ → List Spot → Type 0
-SomeMarked marks cs = (j : ℕ) × (s : Spot) × Nth cs j s × (marked marks j ≡ true)
+SomeMarked marks cs = (j : ℕ) × (s : Spot) × Nth cs j s × (isMarked marks j ≡ true)
 
 -- the word number i stands in an allowed column
 abbrev pub SomeAllowed : List Spot → ℕ → Type 0
-SomeAllowed cs columns = (s : Spot) × List·Memᴰ s cs × (allows columns (s .column) ≡ true)
+SomeAllowed cs columns = (s : Spot) × List·Memᴰ s cs × (contains columns (s .column) ≡ true)
 
 -- the marks tell for which candidates something holds, and `r` whether there are any
-pub record Tells (cs : List Spot) (Holds : ℕ → ℕ → ℕ → Type 0) (marks : List ℕ) (r : Bool) : Type 0 where
+pub record MarksAre (cs : List Spot) (Holds : ℕ → ℕ → ℕ → Type 0) (marks : List ℕ) (r : Bool) : Type 0 where
   pub small : (j column position : ℕ) → Nth cs j (spot column position) → position < positionLimit
-  pub marks-tell : (j column position : ℕ) → Nth cs j (spot column position) → (marked marks j ≡ true) ↔ Holds j column position
+  pub marks-are : (j column position : ℕ) → Nth cs j (spot column position) → (isMarked marks j ≡ true) ↔ Holds j column position
   pub some : (r ≡ true) ↔ SomeMarked marks cs
 
 -- ---- sources and windows
 
 -- the chain so far can end at a candidate of the word before
 abbrev pub sourceOf : Bool → ℕ → List ℕ → ℕ → ℕ → Bool
-sourceOf first set before j column = pick first (allows set column) (marked before j)
+sourceOf first set before j column = pick first (contains set column) (isMarked before j)
 
 -- a source lies in the window at a position
 pub record NearSource (source : ℕ → ℕ → Bool) (cs : List Spot) (t : Window) (column position : ℕ) : Type 0 where
@@ -70,13 +71,13 @@ pub record NearSource (source : ℕ → ℕ → Bool) (cs : List Spot) (t : Wind
   pub place : ℕ
   pub nth : Nth cs number (spot column place)
   pub is-source : source number column ≡ true
-  pub not-behind : position ≤ place + t .back
-  pub not-ahead : place < position + t .ahead
+  pub within-back : position ≤ place + t .back
+  pub within-ahead : place < position + t .ahead
 
 -- which candidates of the word number i a step marks
 abbrev pub Steps : List Hit → ℕ → ℕ → Window → (ℕ → ℕ → Bool) → List ℕ → Bool → Type 0
 Steps hits i columns t source marks r =
-    Tells (candidates i hits) (λ j column position. (allows columns column ≡ true) × NearSource source (candidates (t .word) hits) t column position) marks r
+    MarksAre (candidates i hits) (λ j column position. (contains columns column ≡ true) × NearSource source (candidates (t .word) hits) t column position) marks r
 
 -- no sum with a position overflows
 pub record Bounded (t : Window) : Type 0 where
@@ -91,20 +92,20 @@ InWindow t keys count column position =
     SomeKey keys count (keyOf column (position - t .back)) (keyOf column (pick (ltb columnSize (position + t .ahead)) columnSize (position + t .ahead)))
 
 -- a candidate was reached before, or is by one of the keys
-abbrev pub Told : Bool → ℕ → Window → List ℕ → ℕ → ℕ → ℕ → Type 0
-Told old columns t keys count column position =
-    (old ≡ true) ⊎ ((allows columns column ≡ true) × InWindow t keys count column position)
+abbrev pub ReachedBy : Bool → ℕ → Window → List ℕ → ℕ → ℕ → ℕ → Type 0
+ReachedBy old columns t keys count column position =
+    (old ≡ true) ⊎ ((contains columns column ≡ true) × InWindow t keys count column position)
 
 -- which candidates of the word number i are marked then
 abbrev pub Marks : List Hit → ℕ → ℕ → Window → List ℕ → ℕ → Bool → List ℕ → List ℕ → Bool → Type 0
 Marks hits i columns t keys count fresh before marks r =
-    Tells (candidates i hits) (λ j column position. Told (oldOf fresh before j) columns t keys count column position) marks r
+    MarksAre (candidates i hits) (λ j column position. ReachedBy (oldOf fresh before j) columns t keys count column position) marks r
 
 -- the key of a position is added, if it is wanted and its column is allowed
 pub record Pushes (keys : List ℕ) (count : ℕ) (wanted : Bool) (columns column position : ℕ) (put : List ℕ) (r : ℕ) : Type 0 where
   pub ordered : Ordered put r
   pub has : (low limit : ℕ) → SomeKey put r low limit
-      ↔ (SomeKey keys count low limit ⊎ ((wanted ≡ true) × (allows columns column ≡ true) × (low ≤ keyOf column position) × (keyOf column position < limit)))
+      ↔ (SomeKey keys count low limit ⊎ ((wanted ≡ true) × (contains columns column ≡ true) × (low ≤ keyOf column position) × (keyOf column position < limit)))
 
 -- ---- the words in the arrays
 
@@ -120,5 +121,5 @@ windowOf ties distances from end =
     (record { word = end - 1; back = 1 + distanceAt ties distances end; ahead = runEnd 1 ties end - from + distanceAt ties distances end })
 
 -- where the operand of the word `end` begins
-abbrev pub startOf : List ℕ → ℕ → ℕ → ℕ
-startOf ties from end = pick (ltb 1 (getD ties end 0)) end from
+abbrev pub operandStart : List ℕ → ℕ → ℕ → ℕ
+operandStart ties from end = pick (ltb 1 (getD ties end 0)) end from

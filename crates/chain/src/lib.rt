@@ -12,9 +12,9 @@ ghost use lib.ListN.{length};
 ghost use Rattle.row.specs.Row.{Hit};
 ghost use Rattle.row.specs.Walk.{WholeRow, candidates};
 ghost use Rattle.doclist.specs.Doclist.{positionLimit};
-ghost use Rattle.chain.specs.Chains.{RowFits, bitWords, markWords, runEnd, chainEnd, Decides, Given, Refused, RoomsKept};
+ghost use Rattle.chain.specs.Chains.{RowFits, bitWords, markWords, runEnd, chainEnd, DecidesChain, ChainLengths, NotEvaluated, RoomsKept};
 ghost use Rattle.chain.specs.Keys.{Ordered, Bound, SomeKey, Inserts};
-ghost use Rattle.chain.specs.Reaching.{marked, oldOf, wordWith, putAt, distanceAt, SomeAllowed, Bounded, Told, InWindow, Pushes, sourceOf, Marks, Steps, windowOf, startOf};
+ghost use Rattle.chain.specs.Reaching.{isMarked, oldOf, wordWith, putAt, distanceAt, SomeAllowed, Bounded, ReachedBy, InWindow, Pushes, sourceOf, Marks, Steps, windowOf, operandStart};
 ghost use Rattle.chain.specs.Going.{Continues};
 
 // A row has at most as many positions as the leaves have bytes.
@@ -23,7 +23,7 @@ const MAX_CANDIDATES: usize = 65536;
 // The number of words that hold a bit for each candidate.
 const BIT_WORDS: usize = 1024;
 
-// The number of words of the rooms: the bits, and behind them the keys.
+// The number of words of the rooms: the bits, and after them the keys.
 pub const MARK_WORDS: usize = 2048;
 
 // The bits of a word.
@@ -35,10 +35,10 @@ const TOO_SHORT: bool = false;
 // How a word is tied to the one before: it is the next of its phrase.
 const CONTINUES: u8 = 1;
 
-// It is the first behind a NEAR with no number.
+// It is the first after a NEAR with no number.
 const NEAR_BARE: u8 = 2;
 
-// It is the first behind a NEAR with a number. A word that begins an operand of AND, OR or NOT has 0.
+// It is the first after a NEAR with a number. A word that begins an operand of AND, OR or NOT has 0.
 const NEAR_WRITTEN: u8 = 3;
 
 // The distance of a NEAR with no number.
@@ -47,19 +47,18 @@ const BARE_DISTANCE: u64 = 10;
 // More than any position.
 const COLUMN_SIZE: u64 = 0x1_0000_0000;
 
-// Where a word may stand beside the one before it in its chain.
+// Where a word may stand beside the one before it in its chain: at `position`, where that one stands at a `place` with
+// position <= place + back and place < position + ahead.
 struct Window {
-    // The word before.
+    // The number of the word before.
     word: usize,
-    // At most so far behind it.
     back: u64,
-    // And less far than this before it.
     ahead: u64,
 }
 
 // Whether candidate `j` is marked.
 fn is_marked(marks: &[u64], j: usize) -> bool
-    ensures { λ r. ⌜ r ≡ marked (now (marks .entry)) j ⌝ }
+    ensures { λ r. ⌜ r ≡ isMarked (now (marks .entry)) j ⌝ }
 {
     let at = j / WORD_BITS;
     if marks.len() <= at {
@@ -96,7 +95,7 @@ fn with_bit(word: u64, k: usize, set: bool) -> u64
 }
 
 // Marks candidate `j` or not.
-fn put(marks: &mut [u64], j: usize, reached: bool)
+fn put_mark(marks: &mut [u64], j: usize, reached: bool)
     ensures { λ _. ⌜ now (marks .exit) ≡ putAt (now (marks .entry)) j reached ⌝ }
 {
     let at = j / WORD_BITS;
@@ -106,7 +105,7 @@ fn put(marks: &mut [u64], j: usize, reached: bool)
     marks[at] = with_bit(marks[at], j % WORD_BITS, reached);
 }
 
-// The first word behind the word `from` that is not tied to the one before by a number from 1 to `most`.
+// The first word after the word `from` that is not tied to the one before by a number from 1 to `most`.
 fn run_end(ties: &[u8], from: usize, most: u8) -> usize
     ensures { λ r. ⌜ r ≡ runEnd most (now (ties .entry)) from ⌝ }
 {
@@ -127,7 +126,7 @@ fn run_end(ties: &[u8], from: usize, most: u8) -> usize
     end
 }
 
-// The first word behind a chain that begins with the word `from`.
+// The first word after a chain that begins with the word `from`.
 pub fn chain_end(ties: &[u8], from: usize) -> usize
     ensures { λ r. ⌜ r ≡ chainEnd (now (ties .entry)) from ⌝ }
 {
@@ -268,7 +267,7 @@ fn is_reached(
     position: u64,
 ) -> bool
     requires { ⌜ (position < positionLimit) × Bounded tie × (count ≤ length (now keys)) ⌝ }
-    ensures { λ r. ⌜ (Ordered (now (keys .entry)) count → (r ≡ true) ↔ Told old columns tie (now (keys .entry)) count column position) ⌝ }
+    ensures { λ r. ⌜ (Ordered (now (keys .entry)) count → (r ≡ true) ↔ ReachedBy old columns tie (now (keys .entry)) count column position) ⌝ }
 {
     if old {
         return true;
@@ -308,7 +307,7 @@ fn mark(
         }
         let old = was_marked(fresh, marks, j);
         let reached = is_reached(old, columns, tie, keys, count, place.column, place.position);
-        put(marks, j, reached);
+        put_mark(marks, j, reached);
         some = some || reached;
         j += 1;
         found = row::advance(leaves, starts, masks, i, place);
@@ -326,7 +325,7 @@ fn is_source(first: bool, set: u16, before: &[u64], j: usize, column: u64) -> bo
 }
 
 // Marks the candidates of the word `i`, in the columns of `set`, that are reached from the word before it; if that is the first of
-// the chain, from its candidates in the columns of `origin`. The keys lie behind the marks of the word before. Whether any are
+// the chain, from its candidates in the columns of `origin`. The keys lie after the marks of the word before. Whether any are
 // reached.
 fn step(
     leaves: &[u8],
@@ -398,7 +397,7 @@ fn window_at(ties: &[u8], distances: &[u16], from: usize, end: usize) -> Window
 // The first word of the operand that the word `end` belongs to; that of the word before is `from`.
 fn operand_start(ties: &[u8], from: usize, end: usize) -> usize
     requires { ⌜ end < length (now ties) ⌝ }
-    ensures { λ r. ⌜ r ≡ startOf (now (ties .entry)) from end ⌝ }
+    ensures { λ r. ⌜ r ≡ operandStart (now (ties .entry)) from end ⌝ }
 {
     if CONTINUES < ties[end] {
         return end;
@@ -473,8 +472,8 @@ fn several(
     marks: &mut [u64],
     spare: &mut [u64],
 ) -> bool
-    requires { ⌜ Given (now ties) (now distances) (now columns) from (now marks) (now spare) × (from + 1 < chainEnd (now ties) from) ⌝ }
-    ensures content { λ r. ⌜ Decides (now (ties .entry)) (now (distances .entry)) (now (columns .entry)) from (now (leaves .entry)) (now (starts .entry)) (now (masks .entry)) (now (marks .entry)) (now (spare .entry)) r ⌝ }
+    requires { ⌜ ChainLengths (now ties) (now distances) (now columns) from (now marks) (now spare) × (from + 1 < chainEnd (now ties) from) ⌝ }
+    ensures content { λ r. ⌜ DecidesChain (now (ties .entry)) (now (distances .entry)) (now (columns .entry)) from (now (leaves .entry)) (now (starts .entry)) (now (masks .entry)) (now (marks .entry)) (now (spare .entry)) r ⌝ }
     ensures frame { λ _. ⌜ RoomsKept (now (marks .entry)) (now (marks .exit)) (now (spare .entry)) (now (spare .exit)) ⌝ }
 {
     let end = MARK_WORDS;
@@ -507,9 +506,9 @@ pub fn holds(
     marks: &mut [u64],
     spare: &mut [u64],
 ) -> bool
-    ensures content { λ r. ⌜ Decides (now (ties .entry)) (now (distances .entry)) (now (columns .entry)) from (now (leaves .entry)) (now (starts .entry)) (now (masks .entry)) (now (marks .entry)) (now (spare .entry)) r ⌝ }
+    ensures content { λ r. ⌜ DecidesChain (now (ties .entry)) (now (distances .entry)) (now (columns .entry)) from (now (leaves .entry)) (now (starts .entry)) (now (masks .entry)) (now (marks .entry)) (now (spare .entry)) r ⌝ }
     ensures single { λ _. ⌜ (chainEnd (now (ties .entry)) from ≡ from + 1 → (now (marks .exit) ≡ now (marks .entry)) × (now (spare .exit) ≡ now (spare .entry))) ⌝ }
-    ensures otherwise { λ r. ⌜ ((Given (now (ties .entry)) (now (distances .entry)) (now (columns .entry)) from (now (marks .entry)) (now (spare .entry)) → ⊥) → Refused (now (marks .entry)) (now (marks .exit)) (now (spare .entry)) (now (spare .exit)) r) ⌝ }
+    ensures otherwise { λ r. ⌜ ((ChainLengths (now (ties .entry)) (now (distances .entry)) (now (columns .entry)) from (now (marks .entry)) (now (spare .entry)) → ⊥) → NotEvaluated (now (marks .entry)) (now (marks .exit)) (now (spare .entry)) (now (spare .exit)) r) ⌝ }
     ensures frame { λ _. ⌜ RoomsKept (now (marks .entry)) (now (marks .exit)) (now (spare .entry)) (now (spare .exit)) ⌝ }
 {
     if ties.len() <= from {

@@ -1,20 +1,53 @@
--- Laws of lists that every layer cites: what stands at a place, what a part is, how far a run of passing bytes goes.
-use Prim.Native.Nat.{ℕ, zero, suc, _+_, _-_, _≤_, _<_}
-use native.Mathlib.Nat.{not-suc-le-zero, le-of-suc-le-suc}
+-- Laws of lists: heads and tails, what stands at a place and after it, maps.
+use Prim.Native.Nat.{_+_, _-_, _<_, _≤_, suc, zero, ℕ}
+use native.Mathlib.Nat.{le-of-suc-le-suc, not-suc-le-zero}
 use native.Mathlib.Numerals.{add-one}
 use native.Mathlib.Omega.{arith}
-use mathlib.Core.Path.{_≡_, refl, sym, ap, ap₂, _∙_}
-use mathlib.Core.Bool.{Bool, true, false}
-use mathlib.Core.List.{List, [], _∷_, _++_}
-use lib.ListN.{length, getD, take, drop, drop-of-length-le, length-drop, length-append}
-use lib.Seq.{drop-cons, drop-drop, drop-append-seam}
-use lib.Dec.{eqb}
-use borrow.Author.Tests.{eqb-true, eq-eqb}
-use Rattle.common.specs.Pick.{pick, both}
-use Rattle.common.specs.Bytes.{span, same}
-use Rattle.common.proofs.Cases.{split, pick-case, bool-case, both-left, both-right, both-true, false-not-true}
+use mathlib.Core.List.{List, [], _++_, _∷_, flatten, map}
+use mathlib.Core.Path.{_∙_, _≡_, ap, refl, sym}
+use lib.ListN.{List·getD-eq-default, drop, drop-of-length-le, getD, length, length-append, length-drop, length-take, take}
+use lib.Seq.{drop-append-seam, drop-cons, drop-drop, take-append-seam}
+use Rattle.common.proofs.Cases.{split}
 
--- ---- what stands at a place
+-- ---- heads and tails
+
+module _ {ℓ} {A : Type ℓ} where
+  pub head-same : {x y : A} {xs ys : List A} → x ∷ xs ≡ y ∷ ys → x ≡ y
+  head-same e = cc
+
+  pub tail-same : {x y : A} {xs ys : List A} → x ∷ xs ≡ y ∷ ys → xs ≡ ys
+  tail-same e = cc
+
+  pub no-element {κ} : {X : Type κ} {x : A} {xs : List A} → [] ≡ x ∷ xs → X
+  no-element e = let z : _≡_ {A = ℕ} 0 1 = cc in absurd (omega arith)
+
+-- a list of length 0 is empty
+pub empty {ℓ} : {A : Type ℓ} (l : List A) → length l ≡ 0 → l ≡ []
+empty [] h = refl
+empty (x ∷ l) h = absurd (omega arith)
+
+-- ---- a place and what comes after it
+
+module _ {A : Type 0} where
+  -- a place whose rest is not empty is inside
+  pub drop-inside : (l : List A) (j : ℕ) (x : A) (r : List A) → drop j l ≡ x ∷ r → j < length l
+  drop-inside l j x r e = split j (length l) (λ h. h) (λ h. no-element (sym (drop-of-length-le l h) ∙ e))
+
+  -- and the rest after it is the tail
+  pub drop-next : (l : List A) (j : ℕ) (x : A) (r : List A) → drop j l ≡ x ∷ r → drop (j + 1) l ≡ r
+  drop-next l j x r e = rw add-one (tail-same (sym (drop-cons l j x (drop-inside l j x r e)) ∙ e))
+
+  -- a place whose rest is empty is not inside
+  pub drop-outside : (l : List A) (j : ℕ) → drop j l ≡ [] → length l ≤ j
+  drop-outside l j e = omega (arith, sym (length-drop j l) ∙ ap length e)
+
+  -- the rest after a part that stands at a place
+  pub drop-past : (l : List A) (j : ℕ) (w t : List A) → drop j l ≡ w ++ t → drop (j + length w) l ≡ t
+  drop-past l j w t e = sym (drop-drop (length w) j l) ∙ ap (drop (length w)) e ∙ drop-append-seam w t
+
+  -- a part that stands at a place fits
+  pub drop-room : (l : List A) (j : ℕ) (w t : List A) → drop j l ≡ w ++ t → length w ≤ length l - j
+  drop-room l j w t e = omega (arith, simp (length-drop, length-append) at (ap length e))
 
 -- a place whose rest begins with `x` is inside, and `x` stands there
 pub drop-head : (s : List ℕ) (i x : ℕ) (r : List ℕ) → drop i s ≡ x ∷ r → (i < length s) × (getD s i 0 ≡ x) × (drop (i + 1) s ≡ r)
@@ -23,50 +56,49 @@ drop-head s i x r e =
     (λ h. let d = drop-cons s i 0 h in (h, (cc), rw add-one (cc)))
     (λ h. let d = drop-of-length-le s h in let z : _≡_ {A = ℕ} 0 1 = cc in absurd (omega arith))
 
--- the rest behind a part that stands at `i`
-pub drop-past : (s : List ℕ) (i : ℕ) (w t : List ℕ) → drop i s ≡ w ++ t → drop (i + length w) s ≡ t
-drop-past s i w t e = sym (drop-drop (length w) i s) ∙ ap (drop (length w)) e ∙ drop-append-seam w t
+-- a place is known by the length of what stands from it on
+pub place-once : (s x y : List ℕ) (i j : ℕ) → i ≤ length s → j ≤ length s → drop i s ≡ x → drop j s ≡ y → length x ≡ length y → i ≡ j
+place-once s x y i j h k p q e = omega (arith, simp length-drop at (ap length p), simp length-drop at (ap length q))
 
--- a part that stands at `i` fits
-pub drop-room : (s : List ℕ) (i : ℕ) (w t : List ℕ) → drop i s ≡ w ++ t → length w ≤ length s - i
-drop-room s i w t e = omega (arith, simp (length-drop, length-append) at (ap length e))
+-- at a place inside, what stands for a missing element does not matter
+pub getD-inside {ℓ} : {A : Type ℓ} (l : List A) (i : ℕ) (a b : A) → i < length l → getD l i a ≡ getD l i b
+getD-inside [] i a b h = absurd (not-suc-le-zero h)
+getD-inside (x ∷ l) zero a b h = refl
+getD-inside (x ∷ l) (suc i) a b h = getD-inside l i a b (le-of-suc-le-suc h)
 
--- ---- whether two byte strings are the same
+-- where something other than the default stands, it stands inside
+pub getD-place : (s : List ℕ) (i a : ℕ) → (getD s i a ≡ a → ⊥) → i < length s
+getD-place s i a h = split i (length s) (λ l. l) (λ l. absurd (h (List·getD-eq-default s a l)))
 
-pub same-true : (s t : List ℕ) → same s t ≡ true → s ≡ t
-unfolding same
-same-true [] [] e = refl
-same-true [] (b ∷ t) e = false-not-true e
-same-true (a ∷ s) [] e = false-not-true e
-same-true (a ∷ s) (b ∷ t) e = ap₂ _∷_ (eqb-true a b (both-left (eqb a b) (same s t) e)) (same-true s t (both-right (eqb a b) (same s t) e))
+pub place-falls : (s : List ℕ) (at next : ℕ) → at < length s → at < next → length s - next < length s - at
+place-falls s at next h k = omega arith
 
-pub same-refl : (s : List ℕ) → same s s ≡ true
-unfolding same
-same-refl [] = refl
-same-refl (a ∷ s) = both-true (eqb a a) (same s s) (eq-eqb a a refl) (same-refl s)
+-- one of several lists is no longer than all of them joined
+pub flatten-inside : (texts : List (List ℕ)) (j : ℕ) → length (getD texts j []) ≤ length (flatten texts)
+unfolding flatten
+flatten-inside [] j = omega arith
+flatten-inside (t ∷ ts) zero = omega (arith, length-append t (flatten ts))
+flatten-inside (t ∷ ts) (suc j) = omega (arith, flatten-inside ts j, length-append t (flatten ts))
 
--- ---- how far a run of passing bytes goes
+-- ---- fronts
 
-pub span-most : (test : ℕ → Bool) (s : List ℕ) → span test s ≤ length s
-unfolding span
-span-most test [] = omega arith
-span-most test (b ∷ s) = pick-case (λ n. n ≤ suc (length s)) (test b) (suc (span test s)) 0 (λ _. let h = span-most test s in omega arith) (λ _. omega arith)
+pub length-take-most : (n : ℕ) (l : List ℕ) → length (take n l) ≤ n
+length-take-most n l = omega (arith, length-take n l)
 
--- every byte of the run passes
-pub span-passes : (test : ℕ → Bool) (s : List ℕ) (i : ℕ) → i < span test s → test (getD s i 0) ≡ true
-unfolding span
-span-passes test [] i h = absurd (not-suc-le-zero h)
-span-passes test (b ∷ s) i h = bool-case (test b) (λ t. go t i (rw t at h) (span-passes test s)) (λ t. absurd (not-suc-le-zero (rw t at h)))
-  where
-    go : test b ≡ true → (i : ℕ) → i < suc (span test s) → ((j : ℕ) → j < span test s → test (getD s j 0) ≡ true) → test (getD (b ∷ s) i 0) ≡ true
-    go t zero h ih = t
-    go t (suc i) h ih = ih i (le-of-suc-le-suc h)
+-- a front that what follows completes is the part up to there
+pub front-here : (s w : List ℕ) (e : ℕ) → e ≤ length s → s ≡ w ++ drop e s → take e s ≡ w
+front-here s w e h q =
+    let k : length w ≡ e = omega (arith, simp (length-append, length-drop) at (ap length q)) in
+    ap (take e) q ∙ ap (λ (n : ℕ). take n (w ++ drop e s)) (sym k) ∙ take-append-seam w (drop e s)
 
--- the byte behind the run, if there is one, does not
-pub span-stops : (test : ℕ → Bool) (s : List ℕ) → span test s < length s → test (getD s (span test s) 0) ≡ false
-unfolding span
-span-stops test [] h = absurd (not-suc-le-zero h)
-span-stops test (b ∷ s) h =
-    bool-case (test b)
-    (λ t. rw t (span-stops test s (le-of-suc-le-suc (rw t at h))))
-    (λ t. rw t t)
+-- ---- maps
+
+pub map-append {ℓ κ} : {A : Type ℓ} {B : Type κ} (f : A → B) (xs ys : List A) → map f (xs ++ ys) ≡ map f xs ++ map f ys
+map-append f [] ys = refl
+map-append f (x ∷ xs) ys = ap (λ r. f x ∷ r) (map-append f xs ys)
+
+-- what a map has at a place
+pub map-at : (f : ℕ → ℕ) (l : List ℕ) (i : ℕ) → i < length l → getD (map f l) i 0 ≡ f (getD l i 0)
+map-at f [] i h = absurd (not-suc-le-zero h)
+map-at f (x ∷ l) zero h = refl
+map-at f (x ∷ l) (suc i) h = map-at f l i (le-of-suc-le-suc h)

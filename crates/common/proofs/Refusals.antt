@@ -1,11 +1,11 @@
 -- Laws of refusals in their order: the answer is one (`first-due-once`), and it is 0 exactly where every refusal is passed
 -- (`accepted-exactly`).
-use Prim.Native.Nat.{ℕ, _≤_, _<_}
+use Prim.Native.Nat.{_<_, _≤_, ℕ}
 use native.Mathlib.Omega.{arith}
-use mathlib.Core.Path.{_≡_, refl, sym, ap, _∙_}
-use mathlib.Core.Logic.{_↔_, _⊎_, inr, ⊎-elim}
-use mathlib.Core.List.{List, [], _∷_, _++_}
-use Rattle.common.specs.Refusals.{Numbers, numbers, Refusal, FirstDue, AllPassed, Exclusive, Numbered}
+use mathlib.Core.List.{List, [], _++_, _∷_}
+use mathlib.Core.Logic.{_↔_, _⊎_, inl, inr, ⊎-elim}
+use mathlib.Core.Path.{_∙_, _≡_, ap, refl, sym}
+use Rattle.common.specs.Refusals.{AllPassed, Exclusive, FirstDue, Numbered, Numbers, Refusal, numbers, roomRefusal}
 
 -- ---- the first of a list
 
@@ -23,6 +23,10 @@ number-differs e d = absurd (d (ap (λ (k : Numbers). k .number) e))
 
 pub second-differs {ℓ} : {X : Type ℓ} {m n : Numbers} → m ≡ n → (m .second ≡ n .second → ⊥) → X
 second-differs e d = absurd (d (ap (λ (k : Numbers). k .second) e))
+
+-- answers are known by their numbers: `f` gives an answer's, and `g` the answer of numbers
+pub known-by-numbers : {A : Type 0} (f : A → Numbers) (g : ℕ → ℕ → A) → ((a : A) → g (f a .number) (f a .second) ≡ a) → (a b : A) → f a ≡ f b → a ≡ b
+known-by-numbers f g back a b e = sym (back a) ∙ ap (λ (m : Numbers). g (m .number) (m .second)) e ∙ back b
 
 -- ---- the whole list
 
@@ -63,3 +67,27 @@ exclusive-append (f ∷ fs) gs x y = (x .0, exclusive-append fs gs (x .1) y)
 -- what `roomRefusal` asks
 pub room-exclusive : {room need : ℕ} → room < need → need ≤ room → ⊥
 room-exclusive d p = omega arith
+
+-- ---- numbers that a list can't give
+
+abbrev pub Lacks : ℕ → List Refusal → Type 0
+Lacks k [] = Unit {0}
+Lacks k (f ∷ fs) = (f .given .number ≡ k → ⊥) × Lacks k fs
+
+pub not-given : (k : ℕ) (fs : List Refusal) (accepted m : Numbers) → Lacks k fs → (accepted .number ≡ k → ⊥) → FirstDue fs accepted m → m .number ≡ k → ⊥
+not-given k [] accepted m h n d e = n (sym (ap (λ (q : Numbers). q .number) d) ∙ e)
+not-given k (f ∷ fs) accepted m h n d e =
+    ⊎-elim
+    (λ g. h .0 (sym (ap (λ (q : Numbers). q .number) (g .1)) ∙ e))
+    (λ g. not-given k fs accepted m (h .1) n (g .1) e)
+    d
+
+-- the room gives only 4, or 0
+pub room-gives : (n need k : ℕ) (m : Numbers) → (4 ≡ k → ⊥) → (0 ≡ k → ⊥) → FirstDue (roomRefusal n need ∷ []) (numbers 0 need) m → m .number ≡ k → ⊥
+room-gives n need k m a b d = not-given k (roomRefusal n need ∷ []) (numbers 0 need) m (a, tt) b d
+
+-- ---- the end of a list
+
+pub swap-tail : (hs fs gs : List Refusal) (a b m : Numbers) → (FirstDue fs a m → ⊥) → FirstDue (hs ++ fs) a m → FirstDue (hs ++ gs) b m
+swap-tail [] fs gs a b m n d = absurd (n d)
+swap-tail (h ∷ hs) fs gs a b m n d = ⊎-elim inl (λ g. inr (g .0, swap-tail hs fs gs a b m n (g .1))) d

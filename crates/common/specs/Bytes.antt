@@ -1,5 +1,5 @@
 -- Byte strings are lists of numbers. These are the few operations on them that definitions of every layer share.
-use Prim.Native.Nat.{ℕ, zero, suc, _-_}
+use Prim.Native.Nat.{ℕ, suc, _-_}
 use mathlib.Core.Bool.{Bool, true, false}
 use mathlib.Core.List.{List, [], _∷_, _++_}
 use lib.ListN.{length, take, drop}
@@ -26,6 +26,6 @@ same (a ∷ s) (b ∷ t) = both (eqb a b) (same s t)
 abbrev pub within : ℕ → ℕ → ℕ → Bool
 within low high b = both (leb low b) (leb b high)
 
--- a room after `w` was written to its front: what stood behind stays as it was
+-- a room once `w` was written to its front: what stands after it stays as it was
 abbrev pub over : List ℕ → List ℕ → List ℕ
 over w room = w ++ drop (length w) room

@@ -1,5 +1,5 @@
 -- Document 01 marks some examples to be proved together, as a single statement over a list of them. Each crate lists
--- those that it can state; the statement is `Holds` of the joined lists.
+-- those that it can state; the statement is `AllHold` of the joined lists.
 use Prim.Native.Nat.{ℕ}
 use mathlib.Core.List.{List, [], _∷_}
 
@@ -8,6 +8,6 @@ pub record Example : Type 1 where
   pub number : ℕ
   pub claim : Type 0
 
-abbrev pub Holds : List Example → Type 0
-Holds [] = Unit {0}
-Holds (e ∷ es) = (e .claim) × Holds es
+abbrev pub AllHold : List Example → Type 0
+AllHold [] = Unit {0}
+AllHold (e ∷ es) = (e .claim) × AllHold es

@@ -1,1 +1,33 @@
-// Nothing runs here: this crate holds the definitions and laws that every layer above cites.
+// What more than one layer needs: document 01's bounds, and whether two byte strings are the same. The crate also holds the
+// definitions and laws that every layer above cites.
+ghost use mathlib.Core.Path.{_≡_};
+ghost use Rattle.common.specs.Bytes.{same};
+
+// The columns of a table.
+pub const MAX_COLUMNS: usize = 16;
+
+// The bytes of a word.
+pub const MAX_WORD: usize = 64;
+
+// The leaves of an index.
+pub const MAX_LEAVES: usize = 8;
+
+// The bytes of all leaves of an index together.
+pub const MAX_INDEX_BYTES: usize = 65536;
+
+// Whether two byte strings are the same.
+pub fn is_same(s: &[u8], t: &[u8]) -> bool
+    ensures { λ r. ⌜ r ≡ same (now (s .entry)) (now (t .entry)) ⌝ }
+{
+    if s.len() != t.len() {
+        return false;
+    }
+    let mut i = 0;
+    while i < s.len() {
+        if s[i] != t[i] {
+            return false;
+        }
+        i += 1;
+    }
+    true
+}

@@ -6,13 +6,13 @@ use native.Mathlib.Nat.{not-suc-le-zero, le-of-suc-le-suc}
 use native.Mathlib.Omega.{arith}
 use native.Mathlib.Numerals.{add-one}
 use mathlib.Core.Path.{_≡_, refl, sym, ap, _∙_, subst}
-use mathlib.Core.Bool.{Bool, true, false}
+use mathlib.Core.Bool.{Bool}
 use mathlib.Core.List.{List, [], _∷_}
 use lib.ListN.{length, getD, take, drop, set, length-set, length-take, length-drop}
 use lib.Seq.{length-take-le, take-add, take-set-le, drop-set-add, getD-take, getD-drop, getD-set-same, getD-set-other, ext-getD}
-use Rattle.common.specs.Pick.{pick}
 use Rattle.common.specs.Bytes.{part}
 use Rattle.common.proofs.Cases.{same-or}
+use Rattle.common.proofs.Numbers.{counted-few}
 use Rattle.cursors.specs.Arrays.{finished, leastOf, blockSize, blockOf, MinimaAre}
 use Rattle.cursors.specs.Scanning.{begun, joined, overOther, overHit, BlockTaken}
 use Rattle.cursors.specs.declared.Scan.{Scan}
@@ -152,10 +152,6 @@ block-begun ds from before scan e h t =
       others = λ k _. refl;
     })
 
-hits-few : (b : Bool) (hits i : ℕ) → hits ≤ i → pick b hits (hits + 1) ≤ i + 1
-hits-few true hits i h = omega arith
-hits-few false hits i h = omega arith
-
 module _ {before ds : List ℕ} {from i : ℕ} {scan : Scan} (t : BlockTaken before ds from i scan) (h : from ≤ i) (l : i < length ds) where
   pub block-other : (hidden : Bool) → BlockTaken before ds from (i + 1) (overOther scan hidden (getD ds i 0))
   block-other hidden =
@@ -170,7 +166,7 @@ module _ {before ds : List ℕ} {from i : ℕ} {scan : Scan} (t : BlockTaken bef
   block-hit covered d moved q e =
       subst (BlockTaken before (set ds i d) from (i + 1)) (sym e)
       (record {
-        few-hits = hits-few covered (scan .hits) i (t .few-hits);
+        few-hits = counted-few covered (scan .hits) i (t .few-hits);
         few-taken = omega (arith, t .few-taken);
         least = let z = part-set ds from i (min (scan .rest) (scan .moved)) d h l (t .least) in omega arith;
         others = λ k f.

@@ -1,17 +1,17 @@
 -- Where an entry ends: in its body only the closing number has a byte 0, so the body goes up to its first byte 0. What
--- stands behind it is the next entry of the list, or the list's end.
+-- stands after it is the next entry of the list, or the list's end.
 use Prim.Native.Nat.{ℕ, zero, suc, _+_, _-_, _/_, _≤_, _<_, min}
 use native.Mathlib.Omega.{arith}
 use mathlib.Core.Path.{_≡_, refl, sym, ap, _∙_, subst}
 use mathlib.Core.Bool.{true, false}
 use mathlib.Core.List.{List, [], _∷_, _++_, append-assoc}
 use lib.ListN.{length, take, drop, length-append, length-drop, length-take}
-use lib.Dec.{ltb}
 use borrow.Author.Tests.{lt-ltb, le-ltb}
 use Rattle.common.specs.Bytes.{part, span}
 use Rattle.common.proofs.Cases.{split}
-use Rattle.common.proofs.Lists.{drop-past, span-most}
-use Rattle.varint.specs.Varint.{encode, encodeIn, maxBytes, readAt}
+use Rattle.common.proofs.Lists.{drop-past}
+use Rattle.common.proofs.Runs.{span-most}
+use Rattle.varint.specs.Varint.{encode, encodeIn, maxVarint, readAt}
 use Rattle.varint.specs.declared.Varint.the-variants.{Value, Refused}
 use Rattle.varint.proofs.Laws.{encode-small, encode-big, refused-no-value, value-same, next-same}
 use Rattle.doclist.specs.Doclist.{Column, Entry, positionNumbers, announced, columnNumbers, encodeAll, entryBytes, encodeFrom}
@@ -47,7 +47,7 @@ open-number (suc most) v h =
 
 open-numbers : (vs : List ℕ) → AllOpen vs → AllOpen (encodeAll vs)
 open-numbers [] h = tt
-open-numbers (v ∷ vs) h = open-append (encode v) (encodeAll vs) (open-number maxBytes v (h .0)) (open-numbers vs (h .1))
+open-numbers (v ∷ vs) h = open-append (encode v) (encodeAll vs) (open-number maxVarint v (h .0)) (open-numbers vs (h .1))
 
 open-positions : (before : ℕ) (ps : List ℕ) → AllOpen (positionNumbers before ps)
 open-positions before [] = tt
@@ -80,14 +80,14 @@ open-span zero s t h = omega arith
 open-span (suc k) [] t h = omega arith
 open-span (suc k) (b ∷ s) t h = rw (lt-ltb 0 b (h .0)) (let i = open-span k s t (h .1) in omega arith)
 
--- ---- the entry behind
+-- ---- the entry after
 
 module _ {leaves : List ℕ} {e : Entry} {rest : List Entry} {docid body last : ℕ} (on : StandsOn leaves e rest docid body last) where
-  open-here : drop body leaves ≡ openBytes (e .columns) ++ (0 ∷ (encodeFrom (e .docid) rest ++ on .behind))
+  open-here : drop body leaves ≡ openBytes (e .columns) ++ (0 ∷ (encodeFrom (e .docid) rest ++ on .after))
   open-here =
       on .bytes
-      ∙ ap (λ (s : List ℕ). s ++ (encodeFrom (e .docid) rest ++ on .behind)) (body-closes (e .columns))
-      ∙ append-assoc (openBytes (e .columns)) (0 ∷ []) (encodeFrom (e .docid) rest ++ on .behind)
+      ∙ ap (λ (s : List ℕ). s ++ (encodeFrom (e .docid) rest ++ on .after)) (body-closes (e .columns))
+      ∙ append-assoc (openBytes (e .columns)) (0 ∷ []) (encodeFrom (e .docid) rest ++ on .after)
 
   last-is : last ≡ body + length (openBytes (e .columns)) + length (encodeFrom (e .docid) rest)
   last-is =
@@ -106,7 +106,7 @@ module _ {leaves : List ℕ} {e : Entry} {rest : List Entry} {docid body last : 
   closes-at =
       let h = last-is in
       ap (λ (s : List ℕ). span isOpen (take (last - body) s)) open-here
-      ∙ open-span (last - body) (openBytes (e .columns)) (encodeFrom (e .docid) rest ++ on .behind) (open-numbers (columnNumbers (e .columns)) (open-columns (e .columns)))
+      ∙ open-span (last - body) (openBytes (e .columns)) (encodeFrom (e .docid) rest ++ on .after) (open-numbers (columnNumbers (e .columns)) (open-columns (e .columns)))
       ∙ omega arith
 
 pub body-length : (cs : List Column) → length (bodyBytes cs) ≡ length (openBytes cs) + 1
@@ -119,7 +119,7 @@ stands-last {rest = []} size on q h = refl
 stands-last {e = e} {rest = x ∷ xs} size on q h =
     absurd (omega (arith, closes-at on, last-is on, entries-pos (e .docid) (x ∷ xs) (omega arith)))
 
--- else the next entry is read behind it
+-- else the next entry is read after it
 pub record NextHere (leaves : List ℕ) (rest : List Entry) (docid at last v next : ℕ) : Type 0 where
   pub reads : readAt leaves at ≡ Value v next
   pub inside : next < length leaves
@@ -133,10 +133,10 @@ next-is {leaves = leaves} {e = e} {rest = x ∷ xs} {docid = docid} {body = body
     let at : ℕ = body + size + 1 in
     let next : ℕ = at + length (encode v) in
     let b : at ≡ body + length (bodyBytes (e .columns)) = omega (arith, closes-at on, body-length (e .columns)) in
-    let d : drop at leaves ≡ encodeFrom (e .docid) (x ∷ xs) ++ on .behind =
-    ap (λ (k : ℕ). drop k leaves) b ∙ drop-past leaves body (bodyBytes (e .columns)) (encodeFrom (e .docid) (x ∷ xs) ++ on .behind) (on .bytes) in
-    let k = entry-number leaves at (e .docid) x (encodeFrom (x .docid) xs ++ on .behind) (on .later .1)
-    (first-entry leaves at (e .docid) x xs (on .behind) d) in
+    let d : drop at leaves ≡ encodeFrom (e .docid) (x ∷ xs) ++ on .after =
+    ap (λ (k : ℕ). drop k leaves) b ∙ drop-past leaves body (bodyBytes (e .columns)) (encodeFrom (e .docid) (x ∷ xs) ++ on .after) (on .bytes) in
+    let k = entry-number leaves at (e .docid) x (encodeFrom (x .docid) xs ++ on .after) (on .later .1)
+    (first-entry leaves at (e .docid) x xs (on .after) d) in
     let l : length (encodeFrom (e .docid) (x ∷ xs)) ≡ length (encode v) + length (bodyBytes (x .columns)) + length (encodeFrom (x .docid) xs) =
     length-append (entryBytes (e .docid) x) (encodeFrom (x .docid) xs)
     ∙ ap (λ (n : ℕ). n + length (encodeFrom (x .docid) xs)) (length-append (encode v) (bodyBytes (x .columns))) in
@@ -148,7 +148,7 @@ next-is {leaves = leaves} {e = e} {rest = x ∷ xs} {docid = docid} {body = body
         inside = omega (arith, i, body-length (x .columns));
         stands =
             record {
-              behind = on .behind;
+              after = on .after;
               same = omega (arith, on .same, on .later .0);
               bytes = k .1;
               ends = omega (arith, on .ends);

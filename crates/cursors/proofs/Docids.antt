@@ -9,12 +9,12 @@ use lib.ListN.{length, getD, take, length-map, List·getD-map}
 use lib.Seq.{take-suc, ext-getD, length-take-le, getD-take}
 use borrow.Author.Tests.{eq-eqb, ne-eqb}
 use Rattle.common.proofs.Cases.{split, same-or}
+use Rattle.common.proofs.Lists.{getD-inside}
 use Rattle.doclist.specs.Doclist.{Entry, docidLimit}
-use Rattle.cursors.specs.Groups.{Group, BeginsFrom, Begins, NextIs}
+use Rattle.cursors.specs.Groups.{Group, BeginsFrom, GroupsBegin, NextIs}
 use Rattle.cursors.specs.Arrays.{finished, ListAt, Cursor, groupCursors, cursors, noCursor, Hold, CursorsAre, leastOf, nextOf}
 use Rattle.cursors.specs.declared.Next.{Next}
-use Rattle.cursors.proofs.General.{getD-inside}
-use Rattle.cursors.proofs.Each.{Each, Ordered, hold-ordered, each-every}
+use Rattle.cursors.proofs.Each.{EachCursor, EntriesOrdered, hold-ordered, each-every}
 
 -- ---- one more docid
 
@@ -70,7 +70,7 @@ begins-from : (m : ℕ) (l : List Entry) → m ≤ headDocid l → BeginsFrom m 
 begins-from m [] h = tt
 begins-from m (e ∷ es) h = h
 
-least-from : (m : ℕ) (cs : List Cursor) → m ≤ least cs → Each (BeginsFrom m) cs
+least-from : (m : ℕ) (cs : List Cursor) → m ≤ least cs → EachCursor (BeginsFrom m) cs
 least-from m [] h = tt
 least-from m (c ∷ cs) h = (begins-from m (c .left) (omega arith), least-from m cs (omega arith))
 
@@ -114,7 +114,7 @@ group-of (g ∷ gs) c m =
     (λ k. let r = group-of gs c k in (r .0, List·Memᴰ·tail (r .1), r .2))
     (List·Memᴰ·append-cases (groupCursors (g .mask) 0 (g .lists)) m)
 
-begins : (gs : List Group) (d : ℕ) → Met d (cursors gs) → Begins d gs
+begins : (gs : List Group) (d : ℕ) → Met d (cursors gs) → GroupsBegin d gs
 begins gs d m =
     let r = group-of gs (m .cursor) (m .member) in
     record {
@@ -127,19 +127,19 @@ begins gs d m =
     }
 
 -- the docids are below the limit
-limit-of : (cs : List Cursor) (c : Cursor) (e : Entry) (es : List Entry) → Each Ordered cs → List·Memᴰ c cs → c .left ≡ e ∷ es → e .docid < docidLimit
+limit-of : (cs : List Cursor) (c : Cursor) (e : Entry) (es : List Entry) → EachCursor EntriesOrdered cs → List·Memᴰ c cs → c .left ≡ e ∷ es → e .docid < docidLimit
 limit-of [] c e es h m q = absurd (List·Memᴰ·not-nil m)
 limit-of (x ∷ cs) c e es h m q =
     ⊎-elim
-    (λ p. subst Ordered (sym (ap (λ (y : Cursor). y .left) p) ∙ q) (h .0) .1)
+    (λ p. subst EntriesOrdered (sym (ap (λ (y : Cursor). y .left) p) ∙ q) (h .0) .1)
     (λ k. limit-of cs c e es (h .1) k q)
     (List·Memᴰ·cases-cons m)
 
-none-left : (cs : List Cursor) → Each Ordered cs → Each (BeginsFrom finished) cs → Each (λ (l : List Entry). l ≡ []) cs
+none-left : (cs : List Cursor) → EachCursor EntriesOrdered cs → EachCursor (BeginsFrom finished) cs → EachCursor (λ (l : List Entry). l ≡ []) cs
 none-left [] h k = tt
 none-left (c ∷ cs) h k = (one (c .left) (h .0) (k .0), none-left cs (h .1) (k .1))
   where
-    one : (l : List Entry) → Ordered l → BeginsFrom finished l → l ≡ []
+    one : (l : List Entry) → EntriesOrdered l → BeginsFrom finished l → l ≡ []
     one [] p q = refl
     one (e ∷ es) p q = absurd (omega (arith, p .1))
 

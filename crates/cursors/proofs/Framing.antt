@@ -1,6 +1,6 @@
 -- What the calls leave alone, whatever the arrays hold: over cursors that are not on the docid (`frame-others`), over one that is
 -- (`frame-hit`); and whether a docid is among some, one docid at a time.
-use Prim.Native.Nat.{ℕ, zero, suc, _+_, _≤_, _<_, min}
+use Prim.Native.Nat.{ℕ, suc, _+_, _≤_, _<_, min}
 use native.Mathlib.Omega.{arith}
 use native.Mathlib.Numerals.{add-one}
 use mathlib.Core.Path.{_≡_, refl, sym, ap, _∙_, subst}
@@ -8,11 +8,10 @@ use mathlib.Core.Bool.{Bool, true, false}
 use mathlib.Core.List.{List, [], _∷_}
 use lib.ListN.{length, getD, drop, set}
 use lib.Seq.{drop-cons, getD-set-same, getD-set-other}
-use lib.Dec.{eqb}
 use borrow.Author.Tests.{eq-eqb, ne-eqb}
 use Rattle.common.specs.Pick.{pick, either}
-use Rattle.common.proofs.Cases.{false-not-true, bool-case, same-or}
-use Rattle.row.proofs.Frames.{kept-all, kept-later, kept-set, kept-at}
+use Rattle.common.proofs.Cases.{false-not-true, same-or}
+use Rattle.common.proofs.Frames.{kept-all, kept-later, kept-set, kept-at}
 use Rattle.cursors.specs.Arrays.{leastOf}
 use Rattle.cursors.specs.Frames.{RowFrame, among}
 

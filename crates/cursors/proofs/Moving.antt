@@ -8,12 +8,12 @@ use mathlib.Core.List.{List, [], _∷_, _++_, map}
 use borrow.Author.Tests.{eq-eqb, ne-eqb}
 use Rattle.common.proofs.Cases.{same-or}
 use Rattle.doclist.specs.Doclist.{Entry, Entries}
-use Rattle.meaning.specs.Index.{Decided, nothing, entryFor, orElse}
+use Rattle.meaning.specs.Index.{MaybeEntry, nothing, entryFor, orElse}
 use Rattle.row.specs.Row.{Hit}
-use Rattle.cursors.specs.Groups.{Group, firstFor, hitOf, hitsAt, without, allWithout, moved, EveryList, Every, BeginsFrom, From}
+use Rattle.cursors.specs.Groups.{Group, firstFor, hitOf, hitsAt, without, allWithout, moved, EveryList, EveryGroup, BeginsFrom, From}
 use Rattle.cursors.specs.Arrays.{Cursor, groupCursors, cursors}
 use Rattle.cursors.specs.Scanning.{movedCursor}
-use Rattle.cursors.proofs.Each.{Ordered}
+use Rattle.cursors.proofs.Each.{EntriesOrdered}
 use Rattle.cursors.proofs.Rows.{none-before}
 
 -- ---- one list
@@ -34,7 +34,7 @@ entry-kept d f h (e ∷ es) =
     ∙ sym (simp (ne-eqb (e .docid) f (λ (p : e .docid ≡ f). h (sym p ∙ q)))))
     (λ q. ap (entryFor f) (without-not d e es q))
 
-list-moved : (d : ℕ) (l : List Entry) → Ordered l → BeginsFrom d l → BeginsFrom (suc d) (without d l)
+list-moved : (d : ℕ) (l : List Entry) → EntriesOrdered l → BeginsFrom d l → BeginsFrom (suc d) (without d l)
 list-moved d [] o b = tt
 list-moved d (e ∷ es) o b =
     same-or (e .docid) d
@@ -45,7 +45,7 @@ list-moved d (e ∷ es) o b =
     next [] h q = tt
     next (x ∷ xs) h q = omega (arith, h .0)
 
-pub no-entry : (d f : ℕ) (l : List Entry) → Ordered l → BeginsFrom d l → f < d → entryFor f l ≡ nothing
+pub no-entry : (d f : ℕ) (l : List Entry) → EntriesOrdered l → BeginsFrom d l → f < d → entryFor f l ≡ nothing
 no-entry d f [] o b h = refl
 no-entry d f (e ∷ es) o b h =
     rw (ne-eqb (e .docid) f (λ (q : e .docid ≡ f). omega arith)) (none-before f (suc (e .docid)) es (o .3) (omega arith))
@@ -56,11 +56,11 @@ first-kept : (d f : ℕ) → (f ≡ d → ⊥) → (ls : List (List Entry)) → 
 first-kept d f h [] = refl
 first-kept d f h (l ∷ ls) = ap₂ orElse (entry-kept d f h l) (first-kept d f h ls)
 
-lists-moved : (d : ℕ) (ls : List (List Entry)) → EveryList Ordered ls → EveryList (BeginsFrom d) ls → EveryList (BeginsFrom (suc d)) (allWithout d ls)
+lists-moved : (d : ℕ) (ls : List (List Entry)) → EveryList EntriesOrdered ls → EveryList (BeginsFrom d) ls → EveryList (BeginsFrom (suc d)) (allWithout d ls)
 lists-moved d [] o b = tt
 lists-moved d (l ∷ ls) o b = (list-moved d l (o .0) (b .0), lists-moved d ls (o .1) (b .1))
 
-no-first : (d f : ℕ) (ls : List (List Entry)) → EveryList Ordered ls → EveryList (BeginsFrom d) ls → f < d → firstFor f ls ≡ nothing
+no-first : (d f : ℕ) (ls : List (List Entry)) → EveryList EntriesOrdered ls → EveryList (BeginsFrom d) ls → f < d → firstFor f ls ≡ nothing
 no-first d f [] o b h = refl
 no-first d f (l ∷ ls) o b h = rw (no-entry d f l (o .0) (b .0) h) (no-first d f ls (o .1) (b .1) h)
 
@@ -69,22 +69,22 @@ no-first d f (l ∷ ls) o b h = rw (no-entry d f l (o .0) (b .0) h) (no-first d 
 pub hits-moved : (d f : ℕ) → (f ≡ d → ⊥) → (gs : List Group) → hitsAt f (moved d gs) ≡ hitsAt f gs
 hits-moved d f h [] = refl
 hits-moved d f h (g ∷ gs) =
-    ap₂ (λ (x : Decided) (r : List Hit). hitOf (g .mask) x ++ r) (first-kept d f h (g .lists)) (hits-moved d f h gs)
+    ap₂ (λ (x : MaybeEntry) (r : List Hit). hitOf (g .mask) x ++ r) (first-kept d f h (g .lists)) (hits-moved d f h gs)
 
-pub from-moved : (d : ℕ) (gs : List Group) → Every Ordered gs → From d gs → From (suc d) (moved d gs)
+pub from-moved : (d : ℕ) (gs : List Group) → EveryGroup EntriesOrdered gs → From d gs → From (suc d) (moved d gs)
 from-moved d [] o b = tt
 from-moved d (g ∷ gs) o b = (lists-moved d (g .lists) (o .0) (b .0), from-moved d gs (o .1) (b .1))
 
-pub hits-none : (d f : ℕ) (gs : List Group) → Every Ordered gs → From d gs → f < d → hitsAt f gs ≡ []
+pub hits-none : (d f : ℕ) (gs : List Group) → EveryGroup EntriesOrdered gs → From d gs → f < d → hitsAt f gs ≡ []
 hits-none d f [] o b h = refl
 hits-none d f (g ∷ gs) o b h =
-    ap₂ (λ (x : Decided) (r : List Hit). hitOf (g .mask) x ++ r) (no-first d f (g .lists) (o .0) (b .0) h) (hits-none d f gs (o .1) (b .1) h)
+    ap₂ (λ (x : MaybeEntry) (r : List Hit). hitOf (g .mask) x ++ r) (no-first d f (g .lists) (o .0) (b .0) h) (hits-none d f gs (o .1) (b .1) h)
 
 -- where no entry is left there is no row
-pub hits-end : (f : ℕ) (gs : List Group) → Every (λ (l : List Entry). l ≡ []) gs → hitsAt f gs ≡ []
+pub hits-end : (f : ℕ) (gs : List Group) → EveryGroup (λ (l : List Entry). l ≡ []) gs → hitsAt f gs ≡ []
 hits-end f [] e = refl
 hits-end f (g ∷ gs) e =
-    ap₂ (λ (x : Decided) (r : List Hit). hitOf (g .mask) x ++ r) (none (g .lists) (e .0)) (hits-end f gs (e .1))
+    ap₂ (λ (x : MaybeEntry) (r : List Hit). hitOf (g .mask) x ++ r) (none (g .lists) (e .0)) (hits-end f gs (e .1))
   where
     none : (ls : List (List Entry)) → EveryList (λ (l : List Entry). l ≡ []) ls → firstFor f ls ≡ nothing
     none [] q = refl

@@ -9,7 +9,7 @@ use lib.Seq.{take-suc, take-add, getD-drop}
 use borrow.Author.Tests.{eq-eqb, ne-eqb}
 use Rattle.common.specs.Bytes.{part}
 use Rattle.common.proofs.Cases.{same-or}
-use Rattle.row.specs.Frame.{KeptFrom}
+use Rattle.common.specs.Frame.{KeptFrom}
 use Rattle.cursors.specs.Arrays.{finished, leastOf, blockSize, MinimaAre}
 use Rattle.cursors.specs.Frames.{otherThan}
 use Rattle.cursors.proofs.Docids.{least-most, least-append}
@@ -90,7 +90,7 @@ module _ (docid : ℕ) (ds₀ ds : List ℕ) (from to rest : ℕ) (kept : KeptFr
   pub rest-joined : (block : ℕ) → block ≡ leastOf (otherThan docid (part ds from to)) → min rest block ≡ leastOf (otherThan docid (take to ds₀))
   rest-joined block b =
       let q : to ≡ from + (to - from) = omega arith in
-      let p = b ∙ ap (λ (x : List ℕ). leastOf (otherThan docid (take (to - from) x))) (kept .behind) in
+      let p = b ∙ ap (λ (x : List ℕ). leastOf (otherThan docid (take (to - from) x))) (kept .kept) in
       let z =
       ap (λ (k : ℕ). leastOf (otherThan docid (take k ds₀))) q
       ∙ ap (λ (x : List ℕ). leastOf (otherThan docid x)) (take-add from (to - from) ds₀)

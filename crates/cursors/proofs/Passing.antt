@@ -11,7 +11,7 @@ use lib.Seq.{length-take-le, getD-take, getD-set-same, getD-set-other}
 use borrow.Author.Tests.{lt-ltb, le-ltb, ne-eqb}
 use Rattle.common.proofs.Cases.{split, same-or}
 use Rattle.doclist.specs.Doclist.{Entry}
-use Rattle.meaning.specs.Index.{Decided, nothing, entry, entryFor, orElse}
+use Rattle.meaning.specs.Index.{MaybeEntry, nothing, entry, entryFor, orElse}
 use Rattle.row.specs.Row.{Hit}
 use Rattle.cursors.specs.Groups.{Group, firstFor, hitOf, hitsAt, withoutBefore, EveryList, BeginsFrom, From, NextIs}
 use Rattle.cursors.specs.Arrays.{finished, StandsOn, ListAt, Cursor, groupCursors, cursors, noCursor, CursorAt, Hold, CursorsAre, leastOf, nextOf, MinimaAre, Passed}
@@ -105,7 +105,7 @@ from-passed d (g ∷ gs) = (lists-before d (g .lists), from-passed d gs)
 hits-later : (d f : ℕ) → d ≤ f → (gs : List Group) → hitsAt f (passedGroups d gs) ≡ hitsAt f gs
 hits-later d f h [] = refl
 hits-later d f h (g ∷ gs) =
-    ap₂ (λ (x : Decided) (r : List Hit). hitOf (g .mask) x ++ r) (first-later d f h (g .lists)) (hits-later d f h gs)
+    ap₂ (λ (x : MaybeEntry) (r : List Hit). hitOf (g .mask) x ++ r) (first-later d f h (g .lists)) (hits-later d f h gs)
 
 -- where a cursor either has no entry for the docid or is of the word, every hit is of the word
 module _ (d word : ℕ) where
@@ -131,7 +131,7 @@ module _ (d word : ℕ) where
         r .1,
       )
 
-  hit-mask : (mask : ℕ) (x : Decided) (h : Hit) → List·Memᴰ h (hitOf mask x) → h .mask ≡ mask
+  hit-mask : (mask : ℕ) (x : MaybeEntry) (h : Hit) → List·Memᴰ h (hitOf mask x) → h .mask ≡ mask
   hit-mask mask nothing h m = absurd (List·Memᴰ·not-nil m)
   hit-mask mask (entry e) h m =
       ⊎-elim (λ q. ap (λ (y : Hit). y .mask) q) (λ k. absurd (List·Memᴰ·not-nil k)) (List·Memᴰ·cases-cons m)
@@ -143,7 +143,7 @@ module _ (d word : ℕ) where
       ⊎-elim
       (λ k.
       ⊎-elim
-      (λ (x : firstFor d (g .lists) ≡ nothing). absurd (List·Memᴰ·not-nil (subst (λ (y : Decided). List·Memᴰ h (hitOf (g .mask) y)) x k)))
+      (λ (x : firstFor d (g .lists) ≡ nothing). absurd (List·Memᴰ·not-nil (subst (λ (y : MaybeEntry). List·Memᴰ h (hitOf (g .mask) y)) x k)))
       (λ (x : g .mask ≡ word). hit-mask (g .mask) (firstFor d (g .lists)) h k ∙ x)
       (r .0))
       (λ k. hits-of-one gs (r .1) h k)

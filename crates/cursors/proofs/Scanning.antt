@@ -11,12 +11,13 @@ use lib.Seq.{drop-cons, getD-set-same, getD-set-other}
 use borrow.Author.Tests.{eq-eqb, ne-eqb}
 use Rattle.common.specs.Pick.{pick}
 use Rattle.common.proofs.Cases.{split}
+use Rattle.common.specs.Bounds.{maxIndexBytes}
 use Rattle.doclist.specs.Doclist.{Entry, docidLimit}
-use Rattle.meaning.specs.Index.{Decided, nothing, entry}
+use Rattle.meaning.specs.Index.{MaybeEntry, nothing, entry}
 use Rattle.row.specs.Row.{Hit, BodyAt, RowIs}
 use Rattle.cursors.specs.Groups.{Group, hitsAt, without, moved, BeginsFrom, From, NextIs}
-use Rattle.cursors.specs.Arrays.{finished, maxLeaves, StandsOn, ListAt, Cursor, cursors, noCursor, CursorAt, Hold, CursorsAre, leastOf, nextOf, blockSize, MinimaAre, RowTaken}
-use Rattle.cursors.specs.Scanning.{headFor, shown, hides, hiddenBy, rowFrom, movedCursor, overOther, takenOf, Scanned}
+use Rattle.cursors.specs.Arrays.{finished, StandsOn, ListAt, Cursor, cursors, noCursor, CursorAt, Hold, CursorsAre, leastOf, nextOf, blockSize, MinimaAre, RowTaken}
+use Rattle.cursors.specs.Scanning.{frontEntry, visible, hides, hiddenBy, rowFrom, movedCursor, overOther, takenOf, Scanned}
 use Rattle.cursors.specs.declared.Next.{Next}
 use Rattle.cursors.specs.declared.Scan.{Scan}
 use Rattle.cursors.proofs.Each.{ordered, every-each, each-at}
@@ -74,7 +75,7 @@ module _ {leaves docids bodies lasts masks follows : List ℕ} (i pd pb : ℕ) w
 -- ---- the scan
 
 -- what the promise is given for
-pub record Ready (leaves docids bodies lasts masks follows : List ℕ) (n : ℕ) (mins starts matched : List ℕ) (docid : ℕ) (gs : List Group) : Type 0 where
+pub record ScanReady (leaves docids bodies lasts masks follows : List ℕ) (n : ℕ) (mins starts matched : List ℕ) (docid : ℕ) (gs : List Group) : Type 0 where
   pub cursors-are : CursorsAre leaves docids bodies lasts masks follows n gs
   pub minima : MinimaAre docids n mins
   pub limit : docid < docidLimit
@@ -83,7 +84,7 @@ pub record Ready (leaves docids bodies lasts masks follows : List ℕ) (n : ℕ)
   pub matched-room : n ≤ length matched
 
 pub scanned-start : {leaves docids bodies lasts masks follows : List ℕ} {n : ℕ} {mins starts matched : List ℕ} {docid : ℕ} {gs : List Group} (rest after : ℕ)
-    → Ready leaves docids bodies lasts masks follows n mins starts matched docid gs
+    → ScanReady leaves docids bodies lasts masks follows n mins starts matched docid gs
     → Scanned leaves docids bodies lasts masks follows n starts matched docid gs (record { hits = 0; hidden = false; taken = 0; last = 0; rest = rest; moved = after }) 0
 scanned-start rest after r =
     record {
@@ -104,7 +105,7 @@ module _ (leaves docids bodies lasts masks follows : List ℕ) (n : ℕ) (starts
     (p : Scanned leaves docids bodies lasts masks follows n starts matched docid gs scan i) where
   -- the cursor at `i` stands on another docid
   not-on : (l : List Entry) → ListAt leaves l (getD docids i 0) (getD bodies i 0) (getD lasts i 0) → (getD docids i 0 ≡ docid → ⊥)
-      → (without docid l ≡ l) × (headFor docid l ≡ nothing)
+      → (without docid l ≡ l) × (frontEntry docid l ≡ nothing)
   not-on [] h o = (refl, refl)
   not-on (e ∷ es) h o =
       let q = ne-eqb (e .docid) docid (λ (q : e .docid ≡ docid). o (h .same ∙ q)) in (simp q, simp q)
@@ -135,7 +136,7 @@ module _ (leaves docids bodies lasts masks follows : List ℕ) (n : ℕ) (starts
         stands = p .stands;
         goes-on =
             ap (λ (r : List Hit). p .row ++ r)
-            (ap₂ (λ (x : Decided) (f : ℕ). shown (hiddenBy (scan .hidden) f) (c .mask) x ++ rowFrom docid (hides (hiddenBy (scan .hidden) f) x) (drop (i + 1) (cursors gs))) (sym (k .1)) (a .follow)
+            (ap₂ (λ (x : MaybeEntry) (f : ℕ). visible (hiddenBy (scan .hidden) f) (c .mask) x ++ rowFrom docid (hides (hiddenBy (scan .hidden) f) x) (drop (i + 1) (cursors gs))) (sym (k .1)) (a .follow)
             ∙ ap (rowFrom docid (scan .hidden)) (sym next-cursor))
             ∙ p .goes-on;
         none = λ e j l. split j i (λ m. let z = p .none e j m in omega arith) (λ m. here j (omega arith));
@@ -173,7 +174,7 @@ module _ (leaves docids bodies lasts masks follows : List ℕ) (n : ℕ) (starts
 
   module _ (pd pb after : ℕ) where
     pub scanned-hit : i < length docids → i < length bodies → scan .hits < length starts → scan .hits < length matched → getD docids i 0 ≡ docid
-        → ((e : Entry) (rest : List Entry) → length leaves ≤ maxLeaves → StandsOn leaves e rest docid (getD bodies i 0) (getD lasts i 0) → ListAt leaves rest pd pb (getD lasts i 0))
+        → ((e : Entry) (rest : List Entry) → length leaves ≤ maxIndexBytes → StandsOn leaves e rest docid (getD bodies i 0) (getD lasts i 0) → ListAt leaves rest pd pb (getD lasts i 0))
         → Scanned leaves (set docids i pd) (set bodies i pb) lasts masks follows n (set starts (scan .hits) (getD bodies i 0)) (set matched (scan .hits) (getD masks i 0)) docid gs
         (record { hits = pick (hiddenBy (scan .hidden) (getD follows i 0)) (scan .hits) (scan .hits + 1); hidden = true; taken = scan .taken + 1; last = i; rest = scan .rest; moved = after }) (i + 1)
     scanned-hit hd hb hs hm o next =
@@ -192,7 +193,7 @@ module _ (leaves docids bodies lasts masks follows : List ℕ) (n : ℕ) (starts
             let r = row-after covered x hs hm (record { rest = _; bytes = on .bytes; good = on .good }) (a .mask) in
             let t = eq-eqb (e .docid) docid (sym (on .same)) in
             let left : without docid (c .left) ≡ rest = ap (without docid) l ∙ simp t in
-            let head : headFor docid (c .left) ≡ entry e = ap (headFor docid) l ∙ simp t in
+            let head : frontEntry docid (c .left) ≡ entry e = ap (frontEntry docid) l ∙ simp t in
             let here = set-here i pd pb c (movedCursor docid c) hd hb a refl refl (subst (λ (m : List Entry). ListAt leaves m pd pb (getD lasts i 0)) (sym left) (next e rest (p .small) on)) in
             record {
               small = p .small;
@@ -210,7 +211,7 @@ module _ (leaves docids bodies lasts masks follows : List ℕ) (n : ℕ) (starts
               goes-on =
                   append-assoc (p .row) (pick covered [] (x ∷ [])) (rowFrom docid true (drop (i + 1) (cursors gs)))
                   ∙ ap (λ (y : List Hit). p .row ++ y)
-                  (ap₂ (λ (y : Decided) (f : ℕ). shown (hiddenBy (scan .hidden) f) (c .mask) y ++ rowFrom docid (hides (hiddenBy (scan .hidden) f) y) (drop (i + 1) (cursors gs))) (sym head) (a .follow)
+                  (ap₂ (λ (y : MaybeEntry) (f : ℕ). visible (hiddenBy (scan .hidden) f) (c .mask) y ++ rowFrom docid (hides (hiddenBy (scan .hidden) f) y) (drop (i + 1) (cursors gs))) (sym head) (a .follow)
                   ∙ ap (λ (y : Cursor). rowFrom docid (scan .hidden) (y ∷ drop (i + 1) (cursors gs))) (sym q)
                   ∙ ap (rowFrom docid (scan .hidden)) (sym next-cursor))
                   ∙ p .goes-on;
@@ -288,7 +289,7 @@ module _ (leaves docids bodies lasts masks follows : List ℕ) (n : ℕ) (starts
 -- ---- every cursor is passed
 
 pub scanned-end : {leaves docids₀ bodies₀ docids bodies lasts masks follows : List ℕ} {n : ℕ} {mins₀ starts₀ matched₀ mins starts matched : List ℕ} {docid : ℕ} {gs : List Group} {scan : Scan} (next : Next)
-    → Ready leaves docids₀ bodies₀ lasts masks follows n mins₀ starts₀ matched₀ docid gs
+    → ScanReady leaves docids₀ bodies₀ lasts masks follows n mins₀ starts₀ matched₀ docid gs
     → n ≤ length docids → n ≤ length bodies → next ≡ nextOf (leastOf (take n docids)) → MinimaAre docids n mins
     → Scanned leaves docids bodies lasts masks follows n starts matched docid gs scan n
     → RowTaken leaves docids bodies lasts masks follows n mins starts matched docid gs (takenOf scan next)

@@ -2,7 +2,7 @@
 -- first entry that is left of its list: its docid, and where its body begins in the lent leaves.
 --
 --     docids    docid of the entry; `finished` where the list has no entry left
---     bodies    place of the entry's body, behind its docid number
+--     bodies    place of the entry's body, after its docid number
 --     lasts     place of the list's last byte
 --     masks     bit i: the query's word number i matches the index word
 --     follows   0 for the first cursor of a group, 1 for the others
@@ -15,6 +15,7 @@ use mathlib.Core.List.{List, [], _∷_, _++_, List·Memᴰ}
 use lib.ListN.{length, getD, take, drop}
 use lib.Dec.{ltb, eqb}
 use Rattle.common.specs.Pick.{pick}
+use Rattle.common.specs.Bounds.{maxIndexBytes}
 use Rattle.doclist.specs.Doclist.{Entry, Columns, Entries, docidLimit, encodeFrom}
 use Rattle.row.specs.Row.{Hit, bodyBytes, RowIs}
 use Rattle.cursors.specs.Groups.{Group, hitsAt, moved, From, NextIs}
@@ -26,21 +27,17 @@ use Rattle.cursors.specs.declared.Taken.{Taken}
 abbrev pub finished : ℕ
 finished = 0xffff_ffff_ffff_ffff
 
--- all leaves together
-abbrev pub maxLeaves : ℕ
-maxLeaves = 65536
-
 -- a body goes up to its first byte 0
 abbrev pub isOpen : ℕ → Bool
 isOpen b = ltb 0 b
 
 -- ---- one cursor
 
--- the entry `e` stands in the leaves, and the rest of its list behind it
+-- the entry `e` stands in the leaves, and the rest of its list after it
 pub record StandsOn (leaves : List ℕ) (e : Entry) (rest : List Entry) (docid body last : ℕ) : Type 0 where
-  pub behind : List ℕ
+  pub after : List ℕ
   pub same : docid ≡ e .docid
-  pub bytes : drop body leaves ≡ bodyBytes (e .columns) ++ (encodeFrom (e .docid) rest ++ behind)
+  pub bytes : drop body leaves ≡ bodyBytes (e .columns) ++ (encodeFrom (e .docid) rest ++ after)
   pub ends : last + 1 ≡ body + length (bodyBytes (e .columns)) + length (encodeFrom (e .docid) rest)
   pub limit : e .docid < docidLimit
   pub good : Columns 0 16 (e .columns)
@@ -77,7 +74,7 @@ pub record CursorAt (leaves docids bodies lasts masks follows : List ℕ) (k : �
   pub follow : getD follows k 0 ≡ c .follows
 
 -- the arrays have room for n cursors
-pub record Room (n : ℕ) (docids bodies lasts masks follows : List ℕ) : Type 0 where
+pub record CursorRoom (n : ℕ) (docids bodies lasts masks follows : List ℕ) : Type 0 where
   pub docid-room : n ≤ length docids
   pub body-room : n ≤ length bodies
   pub last-room : n ≤ length lasts
@@ -87,12 +84,12 @@ pub record Room (n : ℕ) (docids bodies lasts masks follows : List ℕ) : Type 
 -- the arrays hold n cursors
 pub record Hold (leaves docids bodies lasts masks follows : List ℕ) (n : ℕ) (cs : List Cursor) : Type 0 where
   pub count : n ≡ length cs
-  pub room : Room n docids bodies lasts masks follows
+  pub room : CursorRoom n docids bodies lasts masks follows
   pub each : (k : ℕ) → k < n → CursorAt leaves docids bodies lasts masks follows k (getD cs k noCursor)
 
 -- the arrays hold the cursors of the groups
 pub record CursorsAre (leaves docids bodies lasts masks follows : List ℕ) (n : ℕ) (groups : List Group) : Type 0 where
-  pub small : length leaves ≤ maxLeaves
+  pub small : length leaves ≤ maxIndexBytes
   pub hold : Hold leaves docids bodies lasts masks follows n (cursors groups)
 
 -- ---- the least docid
@@ -131,7 +128,7 @@ pub record RowTaken (leaves docids bodies lasts masks follows : List ℕ) (n : �
   pub cursors-are : CursorsAre leaves docids bodies lasts masks follows n (moved docid groups)
   pub minima : MinimaAre docids n mins
   pub next-is : NextIs (moved docid groups) (r .next)
-  -- where just one cursor stood on the docid, every other one stands at `rest` or behind it
+  -- where just one cursor stood on the docid, every other one stands at `rest` or after it
   pub lone : r .taken ≡ 1 → (r .last < n) × ((k : ℕ) → k < n → (k ≡ r .last → ⊥) → r .rest ≤ getD docids k 0)
 
 -- ---- what passing over the entries before a docid does

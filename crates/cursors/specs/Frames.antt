@@ -6,8 +6,8 @@ use mathlib.Core.List.{List, [], _∷_}
 use lib.ListN.{length, getD, take, set}
 use lib.Dec.{eqb}
 use Rattle.common.specs.Pick.{pick, either}
-use Rattle.row.specs.Frame.{KeptFrom}
-use Rattle.cursors.specs.Arrays.{finished, Room, leastOf, nextOf, blockSize, blocksOf, blockOf, MinimaAre}
+use Rattle.common.specs.Frame.{KeptFrom}
+use Rattle.cursors.specs.Arrays.{finished, CursorRoom, leastOf, nextOf, blockSize, blocksOf, blockOf, MinimaAre}
 use Rattle.cursors.specs.declared.Next.{Next}
 use Rattle.cursors.specs.declared.Next.the-variants.{End}
 use Rattle.cursors.specs.declared.Taken.{Taken}
@@ -16,7 +16,7 @@ use Rattle.cursors.specs.declared.Taken.{Taken}
 
 -- the arrays have room for n cursors, their blocks and their hits
 pub record TakeRoom (n : ℕ) (docids bodies lasts masks follows mins starts matched : List ℕ) : Type 0 where
-  pub cursor-room : Room n docids bodies lasts masks follows
+  pub cursor-room : CursorRoom n docids bodies lasts masks follows
   pub min-room : n ≤ blockSize * length mins
   pub start-room : n ≤ length starts
   pub matched-room : n ≤ length matched
@@ -41,7 +41,7 @@ pub record RowNext (docid n : ℕ) (docids₀ docids mins : List ℕ) (r : Taken
   pub next-is : r .next ≡ nextOf (leastOf (take n docids))
   pub rest-is : r .rest ≡ leastOf (otherThan docid (take n docids₀))
 
--- of the first `i` cursors those on the docid have moved, and no others; none goes back; hits are written one behind the other, the place of a hidden
+-- of the first `i` cursors those on the docid have moved, and no others; none goes back; hits are written one after the other, the place of a hidden
 -- one again
 pub record RowFrame (docid i : ℕ) (docids₀ docids bodies₀ bodies starts₀ starts matched₀ matched : List ℕ) (hits taken last : ℕ) : Type 0 where
   pub few-hits : hits ≤ taken
@@ -79,7 +79,7 @@ among docid (d ∷ ds) = either (eqb d docid) (among docid ds)
 abbrev pub nextFrom : ℕ → List ℕ → Next
 nextFrom rest mins = nextOf (pick (among rest mins) rest (leastOf mins))
 
--- the cursor `i` stands at `rest` or behind it, where it stood if that is so already; its block's least docid is right, and nothing
+-- the cursor `i` stands at `rest` or after it, where it stood if that is so already; its block's least docid is right, and nothing
 -- else has changed
 pub record PassFrame (n i rest : ℕ) (docids₀ docids bodies₀ bodies mins₀ mins : List ℕ) (r : Next) : Type 0 where
   pub docid : ℕ

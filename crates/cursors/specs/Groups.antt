@@ -8,7 +8,7 @@ use mathlib.Core.List.{List, [], _∷_, _++_, List·Memᴰ}
 use lib.Dec.{ltb, eqb}
 use Rattle.common.specs.Pick.{pick}
 use Rattle.doclist.specs.Doclist.{Entry, docidLimit}
-use Rattle.meaning.specs.Index.{Decided, nothing, entry, entryFor, orElse}
+use Rattle.meaning.specs.Index.{MaybeEntry, nothing, entry, entryFor, orElse}
 use Rattle.row.specs.Row.{Hit}
 use Rattle.cursors.specs.declared.Next.{Next}
 use Rattle.cursors.specs.declared.Next.the-variants.{Docid, End}
@@ -21,12 +21,12 @@ pub record Group : Type 0 where
 -- ---- the row at a docid
 
 -- the entry of the first list that has one for the docid
-abbrev pub firstFor : ℕ → List (List Entry) → Decided
+abbrev pub firstFor : ℕ → List (List Entry) → MaybeEntry
 firstFor docid [] = nothing
 firstFor docid (l ∷ ls) = orElse (entryFor docid l) (firstFor docid ls)
 
 -- a deletion is a hit with no column
-abbrev pub hitOf : ℕ → Decided → List Hit
+abbrev pub hitOf : ℕ → MaybeEntry → List Hit
 hitOf mask nothing = []
 hitOf mask (entry e) = record { mask = mask; columns = e .columns } ∷ []
 
@@ -61,9 +61,9 @@ abbrev pub EveryList : (List Entry → Type 0) → List (List Entry) → Type 0
 EveryList P [] = Unit {0}
 EveryList P (l ∷ ls) = P l × EveryList P ls
 
-abbrev pub Every : (List Entry → Type 0) → List Group → Type 0
-Every P [] = Unit {0}
-Every P (g ∷ gs) = EveryList P (g .lists) × Every P gs
+abbrev pub EveryGroup : (List Entry → Type 0) → List Group → Type 0
+EveryGroup P [] = Unit {0}
+EveryGroup P (g ∷ gs) = EveryList P (g .lists) × EveryGroup P gs
 
 -- a list does not begin before the docid
 abbrev pub BeginsFrom : ℕ → List Entry → Type 0
@@ -72,10 +72,10 @@ BeginsFrom docid (e ∷ es) = docid ≤ e .docid
 
 -- no list begins before the docid
 abbrev pub From : ℕ → List Group → Type 0
-From docid groups = Every (BeginsFrom docid) groups
+From docid groups = EveryGroup (BeginsFrom docid) groups
 
 -- some list begins with the docid
-pub record Begins (docid : ℕ) (groups : List Group) : Type 0 where
+pub record GroupsBegin (docid : ℕ) (groups : List Group) : Type 0 where
   pub group : Group
   pub first : Entry
   pub others : List Entry
@@ -85,5 +85,5 @@ pub record Begins (docid : ℕ) (groups : List Group) : Type 0 where
 
 -- the next docid is the least with which a list begins; the search ends where no list has an entry left
 abbrev pub NextIs : List Group → Next → Type 0
-NextIs groups (Docid docid) = From docid groups × Begins docid groups × (docid < docidLimit)
-NextIs groups End = Every (λ l. l ≡ []) groups
+NextIs groups (Docid docid) = From docid groups × GroupsBegin docid groups × (docid < docidLimit)
+NextIs groups End = EveryGroup (λ l. l ≡ []) groups

@@ -9,11 +9,12 @@ use lib.ListN.{length, getD, drop}
 use lib.Dec.{ltb, eqb}
 use Rattle.common.specs.Pick.{pick, both}
 use Rattle.common.specs.Bytes.{part}
+use Rattle.common.specs.Bounds.{maxIndexBytes}
 use Rattle.doclist.specs.Doclist.{Entry, docidLimit}
-use Rattle.meaning.specs.Index.{Decided, nothing, entry}
+use Rattle.meaning.specs.Index.{MaybeEntry, nothing, entry}
 use Rattle.row.specs.Row.{Hit, RowIs}
 use Rattle.cursors.specs.Groups.{Group, without}
-use Rattle.cursors.specs.Arrays.{finished, maxLeaves, Cursor, cursors, noCursor, CursorAt, leastOf}
+use Rattle.cursors.specs.Arrays.{finished, Cursor, cursors, noCursor, CursorAt, leastOf}
 use Rattle.cursors.specs.declared.Next.{Next}
 use Rattle.cursors.specs.declared.Scan.{Scan}
 use Rattle.cursors.specs.declared.Taken.{Taken}
@@ -21,17 +22,17 @@ use Rattle.cursors.specs.declared.Taken.{Taken}
 -- ---- the row, cursor by cursor
 
 -- the first entry, where it is for the docid
-abbrev pub headFor : ℕ → List Entry → Decided
-headFor d [] = nothing
-headFor d (e ∷ es) = pick (eqb (e .docid) d) (entry e) nothing
+abbrev pub frontEntry : ℕ → List Entry → MaybeEntry
+frontEntry d [] = nothing
+frontEntry d (e ∷ es) = pick (eqb (e .docid) d) (entry e) nothing
 
 -- what a cursor adds to the row, where it is hidden or not
-abbrev pub shown : Bool → ℕ → Decided → List Hit
-shown hidden mask nothing = []
-shown hidden mask (entry e) = pick hidden [] (record { mask = mask; columns = e .columns } ∷ [])
+abbrev pub visible : Bool → ℕ → MaybeEntry → List Hit
+visible hidden mask nothing = []
+visible hidden mask (entry e) = pick hidden [] (record { mask = mask; columns = e .columns } ∷ [])
 
 -- whether the next cursor of the group is hidden
-abbrev pub hides : Bool → Decided → Bool
+abbrev pub hides : Bool → MaybeEntry → Bool
 hides hidden nothing = hidden
 hides hidden (entry e) = true
 
@@ -41,8 +42,8 @@ hiddenBy hidden follows = both hidden (ltb 0 follows)
 abbrev pub rowFrom : ℕ → Bool → List Cursor → List Hit
 rowFrom d hidden [] = []
 rowFrom d hidden (c ∷ cs) =
-    shown (hiddenBy hidden (c .follows)) (c .mask) (headFor d (c .left))
-    ++ rowFrom d (hides (hiddenBy hidden (c .follows)) (headFor d (c .left))) cs
+    visible (hiddenBy hidden (c .follows)) (c .mask) (frontEntry d (c .left))
+    ++ rowFrom d (hides (hiddenBy hidden (c .follows)) (frontEntry d (c .left))) cs
 
 abbrev pub movedCursor : ℕ → Cursor → Cursor
 movedCursor d c = record { mask = c .mask; follows = c .follows; left = without d (c .left) }
@@ -74,7 +75,7 @@ takenOf scan next =
 
 -- `i` cursors are passed: they have moved on, the others stand where they stood; `row` is the row so far
 pub record Scanned (leaves docids bodies lasts masks follows : List ℕ) (n : ℕ) (starts matched : List ℕ) (docid : ℕ) (groups : List Group) (scan : Scan) (i : ℕ) : Type 0 where
-  pub small : length leaves ≤ maxLeaves
+  pub small : length leaves ≤ maxIndexBytes
   pub counted : n ≡ length (cursors groups)
   pub limit : docid < docidLimit
   pub passed : (k : ℕ) → k < i → CursorAt leaves docids bodies lasts masks follows k (movedCursor docid (getD (cursors groups) k noCursor))
@@ -83,7 +84,7 @@ pub record Scanned (leaves docids bodies lasts masks follows : List ℕ) (n : �
   pub count : scan .hits ≡ length row
   pub stands : RowIs leaves starts matched row
   pub goes-on : row ++ rowFrom docid (scan .hidden) (drop i (cursors groups)) ≡ rowFrom docid false (cursors groups)
-  -- where no cursor stood on the docid, or just one, the others stand at `rest` or behind it
+  -- where no cursor stood on the docid, or just one, the others stand at `rest` or after it
   pub none : scan .taken ≡ 0 → (k : ℕ) → k < i → scan .rest ≤ getD docids k 0
   pub one : scan .taken ≡ 1 → (scan .last < i) × ((k : ℕ) → k < i → (k ≡ scan .last → ⊥) → scan .rest ≤ getD docids k 0)
 

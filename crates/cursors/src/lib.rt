@@ -1,7 +1,7 @@
 // Cursors over posting lists: one for each list of an index word that the query asks for. A search goes from the least
 // docid to the next; at each, the entries on it make a row, and their cursors move on. The cursors stand in blocks, and the
 // least docid of each block is kept, so that a block without the docid is passed over. An entry's body is what stands
-// behind its docid number; all numbers are varints, and in a body only the closing one has a byte 0:
+// after its docid number; all numbers are varints, and in a body only the closing one has a byte 0:
 //
 //     docid (later its difference)   body: for each column [1, column] position + 2, ..   0
 use varint::Varint;
@@ -16,17 +16,15 @@ ghost use Rattle.common.specs.Pick.{pick, both};
 ghost use Rattle.common.specs.Bytes.{part, span};
 ghost use Rattle.doclist.specs.Doclist.{Entry, docidLimit};
 ghost use Rattle.cursors.specs.Groups.{Group, withoutBefore, From, NextIs};
-ghost use Rattle.row.specs.Frame.{KeptFrom};
-ghost use Rattle.cursors.specs.Arrays.{finished, isOpen, StandsOn, ListAt, CursorsAre, leastOf, nextOf, blockSize, blocksOf, MinimaAre, RowTaken, Passed, maxLeaves};
+ghost use Rattle.common.specs.Frame.{KeptFrom};
+ghost use Rattle.common.specs.Bounds.{maxIndexBytes};
+ghost use Rattle.cursors.specs.Arrays.{finished, isOpen, StandsOn, ListAt, CursorsAre, leastOf, nextOf, blockSize, blocksOf, MinimaAre, RowTaken, Passed};
 ghost use Rattle.cursors.specs.Frames.{TakeRoom, NotTaken, otherThan, RowNext, RowFrame, MoveRoom, NotPassed, among, nextFrom, PassFrame};
 ghost use Rattle.cursors.specs.Scanning.{begun, joined, overOther, overHit, takenOf, Fits, BlockTaken, Scanned};
 ghost use Rattle.cursors.specs.declared.Scan.{Scan};
 
 // Stands for no docid. Docids are below 2^63.
 const FINISHED: u64 = 0xffff_ffff_ffff_ffff;
-
-// One above the largest docid.
-const DOCID_LIMIT: u64 = 0x8000_0000_0000_0000;
 
 // All leaves together have at most 65,536 bytes, so this is the last place in them.
 const LAST_PLACE: usize = 65535;
@@ -84,7 +82,7 @@ fn open_bytes(s: &[u8]) -> usize
 
 // Where the cursor stands after the entry whose body is at `body`, in a list whose last byte is at `last`.
 fn entry_after(leaves: &[u8], docid: u64, body: u16, last: u16) -> Place
-    ensures content { λ r. ⌜ ((e : Entry) (rest : List Entry) → length (now (leaves .entry)) ≤ maxLeaves → StandsOn (now (leaves .entry)) e rest docid body last → ListAt (now (leaves .entry)) rest (r .docid) (r .body) last) ⌝ }
+    ensures content { λ r. ⌜ ((e : Entry) (rest : List Entry) → length (now (leaves .entry)) ≤ maxIndexBytes → StandsOn (now (leaves .entry)) e rest docid body last → ListAt (now (leaves .entry)) rest (r .docid) (r .body) last) ⌝ }
     ensures onward { λ r. ⌜ (docid < finished → docid + body < r .docid + r .body) × (docid ≤ r .docid) ⌝ }
 {
     let from = body as usize;
@@ -106,7 +104,7 @@ fn entry_after(leaves: &[u8], docid: u64, body: u16, last: u16) -> Place
     let Varint::Value { value, next } = varint::read(leaves, close + 1) else {
         return end;
     };
-    if DOCID_LIMIT <= docid {
+    if doclist::DOCID_LIMIT <= docid {
         return end;
     }
     if LAST_PLACE < next {
@@ -459,7 +457,7 @@ pub fn advance(
 
 // Where the cursor stands after all entries before `rest`.
 fn place_from(leaves: &[u8], docid: u64, body: u16, last: u16, rest: u64) -> Place
-    ensures content { λ r. ⌜ ((left : List Entry) → length (now (leaves .entry)) ≤ maxLeaves → ListAt (now (leaves .entry)) left docid body last → ListAt (now (leaves .entry)) (withoutBefore rest left) (r .docid) (r .body) last) ⌝ }
+    ensures content { λ r. ⌜ ((left : List Entry) → length (now (leaves .entry)) ≤ maxIndexBytes → ListAt (now (leaves .entry)) left docid body last → ListAt (now (leaves .entry)) (withoutBefore rest left) (r .docid) (r .body) last) ⌝ }
     ensures reached { λ r. ⌜ rest ≤ r .docid ⌝ }
     ensures stays { λ r. ⌜ (rest ≤ docid → (r .docid ≡ docid) × (r .body ≡ body)) ⌝ }
 {
@@ -470,7 +468,7 @@ fn place_from(leaves: &[u8], docid: u64, body: u16, last: u16, rest: u64) -> Pla
     place
 }
 
-// Whether a docid is among some.
+// Whether one of the docids is `docid`.
 fn has_docid(docids: &[u64], docid: u64) -> bool
     ensures { λ r. ⌜ r ≡ among docid (now (docids .entry)) ⌝ }
 {

@@ -3,14 +3,15 @@
 use Prim.Native.Nat.{ℕ, zero, suc, _+_, _-_, _^_, _≤_, _<_}
 use native.Mathlib.Omega.{arith}
 use native.Mathlib.Numerals.{add-one}
-use mathlib.Core.Path.{_≡_, refl, sym, ap, ap₂, _∙_}
-use mathlib.Core.List.{List, [], _∷_, _++_, append-assoc}
+use mathlib.Core.Path.{_≡_, refl, sym, ap, ap₂, _∙_, subst}
+use mathlib.Core.List.{List, [], _∷_, _++_, append-assoc, List·Memᴰ, List·Memᴰ·not-nil, List·Memᴰ·cases-cons, List·Memᴰ·head, List·Memᴰ·tail}
 use lib.ListN.{length}
 use lib.Dec.{ltb, leb, eqb}
 use borrow.Author.Tests.{ltb-true, ltb-false, leb-false, eqb-true, eqb-false}
 use Rattle.common.proofs.Cases.{pick-case}
+use mathlib.Core.Logic.{⊎-elim}
 use Rattle.doclist.specs.Doclist.{Column, Entry, docidLimit, positionLimit, Rising, NotEmpty, Columns, Entries, positionNumbers, announced, columnNumbers}
-use Rattle.doclist.specs.Checking.{positionOf, stepOf, endedOf}
+use Rattle.doclist.specs.Checking.{positionState, checkStep, endedOf}
 use Rattle.doclist.specs.declared.State.{State}
 use Rattle.doclist.specs.declared.State.the-variants.{Start, Between, Open, Name, Named, Broken}
 use Rattle.doclist.specs.declared.ListCheck.the-variants as list-check
@@ -72,7 +73,7 @@ lower : (count : ℕ) (cs : List Column) → Columns 1 count cs → Columns 0 co
 lower count [] h = tt
 lower count (c ∷ cs) h = (omega arith, h .1, h .2, h .3, h .4)
 
--- positions behind a docid are those of column 0
+-- positions after a docid are those of column 0
 columns-of : (count : ℕ) → 0 < count → (ps : List ℕ) (cs : List Column) → Rising 0 positionLimit ps → Columns 1 count cs
     → (all : List Column) × (columnNumbers all ≡ positionNumbers 0 ps ++ columnNumbers cs) × Columns 0 count all
 columns-of count z [] cs r h = (cs, refl, lower count cs h)
@@ -92,7 +93,7 @@ module _ (count : ℕ) (pos : 0 < count) where
         (hl, hd, k .2, t .good),
       )
 
-  back-position : (d c b l v : ℕ) (vs : List ℕ) → ToCome count (positionOf d c b l v) vs
+  back-position : (d c b l v : ℕ) (vs : List ℕ) → ToCome count (positionState d c b l v) vs
       → (t : ToPlace count d c b l (v ∷ vs)) × NotEmpty (t .positions)
   back-position d c b l v vs =
       pick-case P (ltb v 2) _ _ (λ _ t. absurd t) λ h2.
@@ -117,7 +118,7 @@ module _ (count : ℕ) (pos : 0 < count) where
             tt,
           )
 
-  back-open : (d c b l v : ℕ) (vs : List ℕ) → ToCome count (stepOf count (Open d c b l) v) vs → ToPlace count d c b l (v ∷ vs)
+  back-open : (d c b l v : ℕ) (vs : List ℕ) → ToCome count (checkStep count (Open d c b l) v) vs → ToPlace count d c b l (v ∷ vs)
   back-open d c b l v vs =
       pick-case P (eqb v 0) _ _ (λ h. closes (eqb-true v 0 h)) λ _.
       pick-case P (eqb v 1) _ _ (λ h t. names (eqb-true v 1 h) (t .column) t refl) λ _ t. back-position d c b l v vs t .0
@@ -153,7 +154,7 @@ module _ (count : ℕ) (pos : 0 < count) where
             good = r .good;
           }
 
-  back-between : (d v : ℕ) (vs : List ℕ) → ToCome count (stepOf count (Between d) v) vs → ToEnter count d (v ∷ vs)
+  back-between : (d v : ℕ) (vs : List ℕ) → ToCome count (checkStep count (Between d) v) vs → ToEnter count d (v ∷ vs)
   back-between d v vs =
       pick-case P (eqb v 0) _ _ (λ _ t. absurd t) λ z.
       pick-case P (ltb v (docidLimit - d)) _ _ (λ l. go (eqb-false v 0 z) (ltb-true v (docidLimit - d) l)) λ _ t. absurd t
@@ -166,7 +167,7 @@ module _ (count : ℕ) (pos : 0 < count) where
           let k = back-entry (suc d) (d + v) d v vs (omega arith) (omega arith) (omega arith) t in
           record { entries = k .0 ∷ k .1; numbers = k .2; good = k .3 }
 
-  back-name : (d c v : ℕ) (vs : List ℕ) → ToCome count (stepOf count (Name d c) v) vs → ToName count d c (v ∷ vs)
+  back-name : (d c v : ℕ) (vs : List ℕ) → ToCome count (checkStep count (Name d c) v) vs → ToName count d c (v ∷ vs)
   back-name d c v vs =
       pick-case P (leb v c) _ _ (λ _ t. absurd t) λ z.
       pick-case P (ltb v count) _ _ (λ l. go (leb-false v c z) (ltb-true v count l)) λ _ t. absurd t
@@ -177,7 +178,7 @@ module _ (count : ℕ) (pos : 0 < count) where
       go : c < v → v < count → P (Named d v)
       go m l t = record { column = v; tail = vs; numbers = refl; more = m; less = l; rest = t }
 
-  back : (q : State) (v : ℕ) (vs : List ℕ) → v < 2 ^ 63 → ToCome count (stepOf count q v) vs → ToCome count q (v ∷ vs)
+  back : (q : State) (v : ℕ) (vs : List ℕ) → v < 2 ^ 63 → ToCome count (checkStep count q v) vs → ToCome count q (v ∷ vs)
   back Start v vs h t =
       let k = back-entry 0 v 0 v vs (omega arith) (omega arith) h t in
       record { entries = k .0 ∷ k .1; numbers = k .2; some = omega arith; good = k .3 }
@@ -198,4 +199,40 @@ module _ (count : ℕ) (pos : 0 < count) where
   -- what a run accepts is content
   pub content : (vs : List ℕ) (q : State) → Small vs → run count q vs ≡ list-check.Accepted → ToCome count q vs
   content [] q m e = at-end q e
-  content (v ∷ vs) q m e = back q v vs (m .0) (content vs (stepOf count q v) (m .1) e)
+  content (v ∷ vs) q m e = back q v vs (m .0) (content vs (checkStep count q v) (m .1) e)
+
+-- ---- rising lists
+
+-- a member is not below the least that may come, and is below the limit
+pub rising-low : (low limit : ℕ) (ds : List ℕ) (d : ℕ) → Rising low limit ds → List·Memᴰ d ds → (low ≤ d) × (d < limit)
+rising-low low limit [] d h m = absurd (List·Memᴰ·not-nil m)
+rising-low low limit (e ∷ ds) d h m =
+    ⊎-elim
+    (λ p. (omega (arith, h .0), omega (arith, h .1)))
+    (λ n. let r = rising-low (suc e) limit ds d (h .2) n in (omega (arith, h .0), r .1))
+    (List·Memᴰ·cases-cons m)
+
+-- two rising lists with the same members are the same
+pub rising-same : (low limit : ℕ) (ds es : List ℕ) → Rising low limit ds → Rising low limit es
+    → ((d : ℕ) → List·Memᴰ d ds → List·Memᴰ d es) → ((d : ℕ) → List·Memᴰ d es → List·Memᴰ d ds) → ds ≡ es
+rising-same low limit [] [] h k f g = refl
+rising-same low limit [] (e ∷ es) h k f g = absurd (List·Memᴰ·not-nil (g e (List·Memᴰ·head refl)))
+rising-same low limit (d ∷ ds) [] h k f g = absurd (List·Memᴰ·not-nil (f d (List·Memᴰ·head refl)))
+rising-same low limit (d ∷ ds) (e ∷ es) h k f g =
+    let same : d ≡ e =
+    ⊎-elim
+    (λ p. p)
+    (λ m.
+    ⊎-elim
+    (λ q. sym q)
+    (λ n. let a = rising-low (suc e) limit es d (k .2) m in let b = rising-low (suc d) limit ds e (h .2) n in absurd (omega arith))
+    (List·Memᴰ·cases-cons (g e (List·Memᴰ·head refl))))
+    (List·Memᴰ·cases-cons (f d (List·Memᴰ·head refl))) in
+    ap₂ _∷_ same
+    (rising-same (suc d) limit ds es (h .2) (subst (λ (x : ℕ). Rising (suc x) limit es) (sym same) (k .2))
+    (λ x m.
+    ⊎-elim (λ p. let a = rising-low (suc d) limit ds x (h .2) m in absurd (omega arith)) (λ n. n)
+    (List·Memᴰ·cases-cons (f x (List·Memᴰ·tail m))))
+    (λ x m.
+    ⊎-elim (λ p. let a = rising-low (suc e) limit es x (k .2) m in absurd (omega arith)) (λ n. n)
+    (List·Memᴰ·cases-cons (g x (List·Memᴰ·tail m)))))

@@ -5,10 +5,11 @@ use mathlib.Core.Path.{_≡_, refl, sym, ap, _∙_, subst}
 use mathlib.Core.Logic.{⊎-elim}
 use mathlib.Core.List.{List, [], _∷_, _++_, append-assoc, List·Memᴰ, List·Memᴰ·not-nil, List·Memᴰ·cases-cons}
 use lib.ListN.{length, drop, length-append}
-use Rattle.varint.specs.Varint.{encode, maxBytes, readAt}
+use Rattle.common.specs.Bounds.{maxColumns}
+use Rattle.varint.specs.Varint.{encode, maxVarint, readAt}
 use Rattle.varint.specs.declared.Varint.the-variants.{Value}
 use Rattle.varint.proofs.Laws.{encode-pos}
-use Rattle.doclist.specs.Doclist.{Entry, maxColumns, docidLimit, Columns, Entries, WellFormed, columnNumbers, entryNumbers, encodeAll, entryBytes, encodeFrom, encodeList}
+use Rattle.doclist.specs.Doclist.{Entry, docidLimit, Columns, Entries, WellFormed, columnNumbers, entryNumbers, encodeAll, entryBytes, encodeFrom, encodeList}
 use Rattle.doclist.proofs.Numbers.{Small, small-append, next-number, listNumbers}
 use Rattle.doclist.proofs.Law.{small-columns, small-entries}
 
@@ -52,7 +53,7 @@ abbrev pub lastDocid : ℕ → List Entry → ℕ
 lastDocid before [] = before
 lastDocid before (e ∷ es) = lastDocid (e .docid) es
 
--- an entry in the middle: it and those behind it keep the rules, and its docid is not below the one before
+-- an entry in the middle: it and those after it keep the rules, and its docid is not below the one before
 pub entries-behind : (low before count : ℕ) (passed : List Entry) (e : Entry) (after : List Entry) → before ≤ low → Entries low count (passed ++ (e ∷ after))
     → (lastDocid before passed ≤ e .docid) × GoodEntry low count e × Entries (suc (e .docid)) count after
 entries-behind low before count [] e after b h = (omega (arith, h .0), record { least = h .0; limit = h .1; columns = h .2 }, h .3)
@@ -77,7 +78,7 @@ small-list count es w = small-entries count 0 0 es (w .few-columns) (w .entries)
 
 pub entry-pos : (before : ℕ) (e : Entry) → 0 < length (entryBytes before e)
 entry-pos before e =
-    let p : 0 < length (encode (e .docid - before)) = encode-pos maxBytes (e .docid - before) (omega arith) in
+    let p : 0 < length (encode (e .docid - before)) = encode-pos maxVarint (e .docid - before) (omega arith) in
     simp length-append (omega arith)
 
 pub entries-pos : (before : ℕ) (es : List Entry) → 0 < length es → 0 < length (encodeFrom before es)
@@ -89,7 +90,7 @@ list-pos count es w = entries-pos 0 es (w .some-entry)
 
 -- ---- reading an entry
 
--- the docid's number, and the numbers of the columns behind it
+-- the docid's number, and the numbers of the columns after it
 pub entry-number : (s : List ℕ) (at before : ℕ) (e : Entry) (t : List ℕ) → e .docid < docidLimit → drop at s ≡ entryBytes before e ++ t
     → (readAt s at ≡ Value (e .docid - before) (at + length (encode (e .docid - before))))
     × (drop (at + length (encode (e .docid - before))) s ≡ encodeAll (columnNumbers (e .columns) ++ (0 ∷ [])) ++ t)

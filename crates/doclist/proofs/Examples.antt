@@ -3,21 +3,21 @@ use Prim.Native.Nat.{ℕ}
 use mathlib.Core.Path.{_≡_, refl}
 use Rattle.common.specs.Pick.{pick}
 use Rattle.common.specs.Bytes.{within}
-use Rattle.common.specs.Marked.{Holds}
+use Rattle.common.specs.Marked.{AllHold}
 use Rattle.common.proofs.Cases.{pick-case}
+use Rattle.common.proofs.Numbers.{within-true}
+use Rattle.common.specs.Bounds.{maxColumns}
 use Rattle.varint.specs.Varint.{encodeIn, readFrom}
-use Rattle.doclist.specs.Doclist.{maxColumns}
 use Rattle.doclist.specs.Checking.{checkFrom}
 use Rattle.doclist.specs.Marked.{marked}
 use Rattle.doclist.specs.declared.ListCheck.{ListCheck}
 use Rattle.doclist.specs.declared.ListCheck.the-variants.{Refused}
-use Rattle.doclist.proofs.General.{within-true}
 
 -- whatever the number of columns
 refused : (count : ℕ) → pick (within 1 maxColumns count) Refused Refused ≡ Refused
 refused count = pick-case (λ (r : ListCheck). r ≡ Refused) (within 1 maxColumns count) Refused Refused (λ _. refl) (λ _. refl)
 
-pub examples : Holds marked
+pub examples : AllHold marked
 unfolding checkFrom encodeIn readFrom
 examples = (
   (λ count l h. rw (within-true 1 maxColumns count l h) refl, refl),

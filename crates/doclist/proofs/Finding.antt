@@ -11,11 +11,13 @@ use Rattle.common.specs.Pick.{pick}
 use Rattle.common.specs.Bytes.{within}
 use Rattle.common.proofs.Cases.{split}
 use Rattle.common.proofs.Lists.{drop-past, drop-room}
-use Rattle.varint.specs.Varint.{encode, maxBytes, readAt}
+use Rattle.common.proofs.Numbers.{within-true}
+use Rattle.common.specs.Bounds.{maxColumns}
+use Rattle.varint.specs.Varint.{encode, maxVarint, readAt}
 use Rattle.varint.specs.declared.Varint.the-variants.{Value, Refused}
 use Rattle.varint.proofs.Laws.{stored-at, reads, encode-pos, next-after}
-use Rattle.doclist.specs.Doclist.{Entry, maxColumns, Entries, WellFormed, columnNumbers, encodeAll, entryBytes, encodeFrom, encodeList, entryPlaceFrom, entryPlace}
-use Rattle.doclist.specs.Checking.{Sane, stepOf, notFoundOf, onClosed, findFrom, findOf}
+use Rattle.doclist.specs.Doclist.{Entry, Entries, WellFormed, columnNumbers, encodeAll, entryBytes, encodeFrom, encodeList, entryPlaceFrom, entryPlace}
+use Rattle.doclist.specs.Checking.{Sane, checkStep, notFoundOf, onClosed, findFrom, findOf}
 use Rattle.doclist.specs.declared.State.{State}
 use Rattle.doclist.specs.declared.State.the-variants.{Start, Between, Open, Name, Named, Broken}
 use Rattle.doclist.specs.declared.EntryAt.{EntryAt}
@@ -23,11 +25,10 @@ use Rattle.doclist.specs.declared.EntryAt.the-variants as entry-at
 use types.Run.{OneOf, miss}
 use denote.Enum.Declared.{tagOf}
 use Rattle.doclist.proofs.State.{the-type}
-use Rattle.doclist.proofs.General.{within-true}
 use Rattle.doclist.proofs.Steps.{sane-step}
 use Rattle.doclist.proofs.Places.{place-behind}
 use Rattle.doclist.proofs.Numbers.{Small, all-append}
-use Rattle.doclist.proofs.Walking.{Inside, Leads, Ready, first, later, entry-stays}
+use Rattle.doclist.proofs.Walking.{StateInside, Leads, StateReady, first, later, entry-stays}
 use Rattle.doclist.proofs.Law.{small-columns}
 
 -- ---- a turn of the search
@@ -48,7 +49,7 @@ module _ (count : ℕ) (s : List ℕ) (docid start i : ℕ) (q : State) where
   -- one more number is taken
   find-again : (k v n : ℕ) → length s ≤ i + k → i < length s → readAt s i ≡ Value v n → i < n
       → (j : ℕ) × (length s ≤ n + j)
-      × (findFrom k count s docid start i q ≡ onClosed docid start n (stepOf count q v) (λ from. findFrom j count s docid from n (stepOf count q v)))
+      × (findFrom k count s docid start i q ≡ onClosed docid start n (checkStep count q v) (λ from. findFrom j count s docid from n (checkStep count q v)))
   unfolding findFrom
   find-again zero v n f h e l = absurd (omega arith)
   find-again (suc k) v n f h e l = (k, omega arith, simp (lt-ltb _ _ h, e))
@@ -97,26 +98,26 @@ module _ {count : ℕ} {s : List ℕ} {docid start i : ℕ} {q : State} (c : Fin
 
   module _ {v n : ℕ} (h : i < length s) (e : readAt s i ≡ Value v n) where
     turn : (j : ℕ) × (length s ≤ n + j)
-        × (findOf count s docid ≡ onClosed docid start n (stepOf count q v) (λ from. findFrom j count s docid from n (stepOf count q v)))
+        × (findOf count s docid ≡ onClosed docid start n (checkStep count q v) (λ from. findFrom j count s docid from n (checkStep count q v)))
     turn =
         let r = find-again count s docid start i q (c .most) v n (c .enough) h e (next-after (omega arith) (stored-at s i v n .0 e)) in
         (r .0, r .1, c .goes-on ∙ r .2)
 
-    still-sane : Sane (stepOf count q v)
+    still-sane : Sane (checkStep count q v)
     still-sane = sane-step count q v (c .sane) (stored-at s i v n .0 e .small)
 
     -- the entry goes on
-    pub finding-inside : NotClosed (stepOf count q v) → Finding count s docid start n (stepOf count q v)
+    pub finding-inside : NotClosed (checkStep count q v) → Finding count s docid start n (checkStep count q v)
     finding-inside o =
         record {
           sane = still-sane;
           most = turn .0;
           enough = turn .1;
-          goes-on = turn .2 ∙ not-closed docid start n (stepOf count q v) _ o;
+          goes-on = turn .2 ∙ not-closed docid start n (checkStep count q v) _ o;
         }
 
     -- an entry closed
-    module _ {d : ℕ} (z : stepOf count q v ≡ Between d) where
+    module _ {d : ℕ} (z : checkStep count q v ≡ Between d) where
       pub finding-found : d ≡ docid → findOf count s docid ≡ entry-at.At start n
       finding-found m = turn .2 ∙ rw z (simp (eq-eqb d docid m))
 
@@ -134,7 +135,7 @@ module _ {count : ℕ} {s : List ℕ} {docid start i : ℕ} {q : State} (c : Fin
 
 -- ---- the search in a well-formed list
 
-inside-not-closed : (q : State) → Inside q → NotClosed q
+inside-not-closed : (q : State) → StateInside q → NotClosed q
 inside-not-closed Start h = tt
 inside-not-closed (Between d) h = h
 inside-not-closed (Open d c b l) h = tt
@@ -153,11 +154,11 @@ module _ (count : ℕ) (s : List ℕ) (docid : ℕ) where
   take-number : (v k start i : ℕ) (q : State) (t : List ℕ) → length s ≤ i + k → v < 2 ^ 63 → drop i s ≡ encode v ++ t
       → (j : ℕ) × (length s ≤ i + length (encode v) + j)
       × (findFrom k count s docid start i q
-      ≡ onClosed docid start (i + length (encode v)) (stepOf count q v) (λ from. findFrom j count s docid from (i + length (encode v)) (stepOf count q v)))
+      ≡ onClosed docid start (i + length (encode v)) (checkStep count q v) (λ from. findFrom j count s docid from (i + length (encode v)) (checkStep count q v)))
   take-number v k start i q t f m e =
-      let p : 0 < length (encode v) = encode-pos maxBytes v (omega arith) in
+      let p : 0 < length (encode v) = encode-pos maxVarint v (omega arith) in
       let room = drop-room s i (encode v) t e in
-      find-again count s docid start i q k v (i + length (encode v)) f (omega arith) (reads maxBytes s i v t (omega arith) m e) (omega arith)
+      find-again count s docid start i q k v (i + length (encode v)) f (omega arith) (reads maxVarint s i v t (omega arith) m e) (omega arith)
 
   -- numbers that lead on inside an entry
   take-inside : (vs : List ℕ) (k start i : ℕ) (q r : State) (t : List ℕ) → length s ≤ i + k → Small vs → Leads count q vs r → drop i s ≡ encodeAll vs ++ t
@@ -168,12 +169,12 @@ module _ (count : ℕ) (s : List ℕ) (docid : ℕ) where
       let e′ : drop i s ≡ encode v ++ (encodeAll vs ++ t) = e ∙ append-assoc (encode v) (encodeAll vs) t in
       let a = take-number v k start i q (encodeAll vs ++ t) f (m .0) e′ in
       let n : ℕ = i + length (encode v) in
-      let b = take-inside vs (a .0) start n (stepOf count q v) r t (a .1) (m .1) (l .1) (drop-past s i (encode v) (encodeAll vs ++ t) e′) in
+      let b = take-inside vs (a .0) start n (checkStep count q v) r t (a .1) (m .1) (l .1) (drop-past s i (encode v) (encodeAll vs ++ t) e′) in
       let w : n + length (encodeAll vs) ≡ i + length (encode v ++ encodeAll vs) = simp length-append (omega arith) in (
         b .0,
         subst (λ (x : ℕ). length s ≤ x + b .0) w (b .1),
         a .2
-            ∙ not-closed docid start n (stepOf count q v) _ (inside-not-closed (stepOf count q v) (l .0))
+            ∙ not-closed docid start n (checkStep count q v) _ (inside-not-closed (checkStep count q v) (l .0))
             ∙ b .2
             ∙ ap (λ (x : ℕ). findFrom (b .0) count s docid start x r) w,
       )
@@ -196,7 +197,7 @@ module _ (count : ℕ) (s : List ℕ) (docid : ℕ) where
       )
 
   -- the first of the entries that are left
-  find-entry : {q : State} {before low : ℕ} (e : Entry) (es : List Entry) (k i : ℕ) → Ready q before low → count ≤ maxColumns → Entries low count (e ∷ es)
+  find-entry : {q : State} {before low : ℕ} (e : Entry) (es : List Entry) (k i : ℕ) → StateReady q before low → count ≤ maxColumns → Entries low count (e ∷ es)
       → length s ≤ i + k → drop i s ≡ encodeFrom before (e ∷ es)
       → ((j n : ℕ) → length s ≤ n + j → drop n s ≡ encodeFrom (e .docid) es → findFrom j count s docid n n (Between (e .docid)) ≡ entryPlaceFrom n (e .docid) es docid)
       → findFrom k count s docid i i q ≡ entryPlaceFrom i before (e ∷ es) docid

@@ -1,5 +1,5 @@
 -- A byte string is accepted exactly where it is the encoding of well-formed entries.
-use Prim.Native.Nat.{ℕ, zero, suc, _+_, _-_, _^_, _≤_, _<_}
+use Prim.Native.Nat.{ℕ, zero, suc, _^_, _≤_, _<_}
 use native.Mathlib.Omega.{arith}
 use mathlib.Core.Path.{_≡_, refl, sym, ap, _∙_}
 use mathlib.Core.Logic.{_↔_}
@@ -8,12 +8,13 @@ use mathlib.Core.List.{List, [], _∷_, _++_}
 use lib.ListN.{length}
 use Rattle.common.specs.Bytes.{within}
 use Rattle.common.proofs.Cases.{bool-case}
-use Rattle.doclist.specs.Doclist.{Column, Entry, maxColumns, positionLimit, Rising, Columns, Entries, WellFormed, positionNumbers, announced, columnNumbers, encodeAll, encodeList}
+use Rattle.common.proofs.Numbers.{within-true, within-least, within-most}
+use Rattle.common.specs.Bounds.{maxColumns}
+use Rattle.doclist.specs.Doclist.{Column, Entry, positionLimit, Rising, Columns, Entries, WellFormed, positionNumbers, announced, columnNumbers, encodeAll, encodeList}
 use Rattle.doclist.specs.Checking.{checkFrom, checkOf}
 use Rattle.doclist.specs.declared.State.the-variants.{Start}
 use Rattle.doclist.specs.declared.ListCheck.{ListCheck}
 use Rattle.doclist.specs.declared.ListCheck.the-variants.{Accepted, Refused}
-use Rattle.doclist.proofs.General.{within-true, within-least, within-most}
 use Rattle.doclist.proofs.Numbers.{Small, small-append, listNumbers, list-bytes, refused-not, taken, run-numbers}
 use Rattle.doclist.proofs.Walking.{accepts}
 use Rattle.doclist.proofs.Content.{content}

@@ -6,12 +6,12 @@ use mathlib.Core.List.{List, [], _∷_, _++_, append-assoc}
 use lib.ListN.{length, drop, drop-of-length-le, length-drop, length-append}
 use Rattle.common.proofs.Cases.{split}
 use Rattle.common.proofs.Lists.{drop-past, drop-room}
-use Rattle.varint.specs.Varint.{encode, maxBytes, readAt}
+use Rattle.varint.specs.Varint.{encode, maxVarint, readAt}
 use Rattle.varint.specs.declared.Varint.{Varint}
 use Rattle.varint.specs.declared.Varint.the-variants.{Value, Refused}
 use Rattle.varint.proofs.Laws.{stored-at, reads, encode-pos, encode-split, next-after}
 use Rattle.doclist.specs.Doclist.{Entry, columnNumbers, entryNumbers, encodeAll, entryBytes, encodeFrom}
-use Rattle.doclist.specs.Checking.{stepOf, endedOf, checkFrom}
+use Rattle.doclist.specs.Checking.{checkStep, endedOf, checkFrom}
 use Rattle.doclist.specs.declared.State.{State}
 use Rattle.doclist.specs.declared.ListCheck.{ListCheck}
 use Rattle.doclist.specs.declared.ListCheck.the-variants as list-check
@@ -34,18 +34,18 @@ all-append (x ∷ xs) ys = ap (λ (l : List ℕ). encode x ++ l) (all-append xs 
 -- the bytes tell the numbers
 pub all-split : (vs ws : List ℕ) → Small vs → Small ws → encodeAll vs ≡ encodeAll ws → vs ≡ ws
 all-split [] [] m n e = refl
-all-split [] (w ∷ ws) m n e = absurd (omega (arith, encode-pos maxBytes w (omega arith), simp length-append at (ap length e)))
-all-split (v ∷ vs) [] m n e = absurd (omega (arith, encode-pos maxBytes v (omega arith), simp length-append at (ap length e)))
+all-split [] (w ∷ ws) m n e = absurd (omega (arith, encode-pos maxVarint w (omega arith), simp length-append at (ap length e)))
+all-split (v ∷ vs) [] m n e = absurd (omega (arith, encode-pos maxVarint v (omega arith), simp length-append at (ap length e)))
 all-split (v ∷ vs) (w ∷ ws) m n e =
-    let s = encode-split maxBytes v w (encodeAll vs) (encodeAll ws) (omega arith) (m .0) (n .0) e in
+    let s = encode-split maxVarint v w (encodeAll vs) (encodeAll ws) (omega arith) (m .0) (n .0) e in
     ap₂ _∷_ (s .0) (all-split vs ws (m .1) (n .1) (s .1))
 
--- the first of stored numbers is read, and the others stand behind it
+-- the first of stored numbers is read, and the others stand after it
 pub next-number : (s : List ℕ) (at v : ℕ) (vs t : List ℕ) → v < 2 ^ 63 → drop at s ≡ encodeAll (v ∷ vs) ++ t
     → (readAt s at ≡ Value v (at + length (encode v))) × (drop (at + length (encode v)) s ≡ encodeAll vs ++ t)
 next-number s at v vs t h e =
     let e′ = e ∙ append-assoc (encode v) (encodeAll vs) t in
-    (reads maxBytes s at v (encodeAll vs ++ t) (omega arith) h e′, drop-past s at (encode v) (encodeAll vs ++ t) e′)
+    (reads maxVarint s at v (encodeAll vs ++ t) (omega arith) h e′, drop-past s at (encode v) (encodeAll vs ++ t) e′)
 
 -- ---- the numbers of a whole list
 
@@ -70,7 +70,7 @@ list-bytes before (e ∷ es) =
 
 abbrev pub run : ℕ → State → List ℕ → ListCheck
 run count q [] = endedOf q
-run count q (v ∷ vs) = run count (stepOf count q v) vs
+run count q (v ∷ vs) = run count (checkStep count q v) vs
 
 pub refused-not {ℓ} : {X : Type ℓ} {r : ListCheck} → r ≡ list-check.Refused → r ≡ list-check.Accepted → X
 refused-not p q = let z : _≡_ {A = ℕ} 0 1 = cc in absurd (omega arith)
@@ -90,11 +90,11 @@ module _ (count : ℕ) (s : List ℕ) where
   taken zero i q f e = at-end i q (omega arith) (sym (check-end count s i q 0 (omega arith)) ∙ e)
   taken (suc k) i q f e =
       split i (length s)
-      (λ h. at-number h (readAt s i) refl (λ n v l w. taken k n (stepOf count q v) (omega arith) w))
+      (λ h. at-number h (readAt s i) refl (λ n v l w. taken k n (checkStep count q v) (omega arith) w))
       (λ h. at-end i q h (sym (check-end count s i q (suc k) h) ∙ e))
     where
       at-number : i < length s → (r : Varint) → readAt s i ≡ r
-          → ((n v : ℕ) → i < n → checkFrom k count s n (stepOf count q v) ≡ list-check.Accepted → Taken count s n (stepOf count q v)) → Taken count s i q
+          → ((n v : ℕ) → i < n → checkFrom k count s n (checkStep count q v) ≡ list-check.Accepted → Taken count s n (checkStep count q v)) → Taken count s i q
       at-number h Refused p ih = refused-not (check-refused count s i q (suc k) f h p) e
       at-number h (Value v n) p ih =
           let st = stored-at s i v n .0 p in
@@ -112,7 +112,10 @@ module _ (count : ℕ) (s : List ℕ) where
   run-numbers [] k i q f m e = check-end count s i q k (omega (arith, simp length-drop at (ap length e)))
   run-numbers (v ∷ vs) k i q f m e =
       let n : ℕ = i + length (encode v) in
-      let p : 0 < length (encode v) = encode-pos maxBytes v (omega arith) in
+      let p : 0 < length (encode v) = encode-pos maxVarint v (omega arith) in
       let room = drop-room s i (encode v) (encodeAll vs) e in
-      let r = check-again count s i q k v n f (omega arith) (reads maxBytes s i v (encodeAll vs) (omega arith) (m .0) e) (omega arith) in
-      r .2 ∙ run-numbers vs (r .0) n (stepOf count q v) (r .1) (m .1) (drop-past s i (encode v) (encodeAll vs) e)
+      let r = check-again count s i q k v n f (omega arith) (reads maxVarint s i v (encodeAll vs) (omega arith) (m .0) e) (omega arith) in
+      r .2 ∙ run-numbers vs (r .0) n (checkStep count q v) (r .1) (m .1) (drop-past s i (encode v) (encodeAll vs) e)
+
+pub all-length : (us vs : List ℕ) → length (encodeAll (us ++ vs)) ≡ length (encodeAll us) + length (encodeAll vs)
+all-length us vs = ap length (all-append us vs) ∙ length-append (encodeAll us) (encodeAll vs)

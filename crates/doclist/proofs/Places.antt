@@ -43,7 +43,7 @@ place-not-refused at before (e ∷ es) docid q =
 -- ---- a place
 
 -- an entry of the docid stands from `start` up to `end`, where the entries stand from `at` on
-pub record Placed (at before : ℕ) (es : List Entry) (docid start end : ℕ) : Type 0 where
+pub record EntryPlaced (at before : ℕ) (es : List Entry) (docid start end : ℕ) : Type 0 where
   pub passed : List Entry
   pub entry : Entry
   pub after : List Entry
@@ -53,14 +53,14 @@ pub record Placed (at before : ℕ) (es : List Entry) (docid start end : ℕ) : 
   pub ends : end ≡ start + length (entryBytes (lastDocid before passed) entry)
 
 placed-here : (at before : ℕ) (e : Entry) (es : List Entry) (docid start end : ℕ) → e .docid ≡ docid → At at (at + length (entryBytes before e)) ≡ At start end
-    → Placed at before (e ∷ es) docid start end
+    → EntryPlaced at before (e ∷ es) docid start end
 placed-here at before e es docid start end m q =
     let a : at ≡ start = cc in
     let b : at + length (entryBytes before e) ≡ end = cc in
     record { passed = []; entry = e; after = es; stands = refl; sought = m; starts = omega arith; ends = omega arith }
 
-placed-past : (at before : ℕ) (e : Entry) (es : List Entry) (docid start end : ℕ) → Placed (at + length (entryBytes before e)) (e .docid) es docid start end
-    → Placed at before (e ∷ es) docid start end
+placed-past : (at before : ℕ) (e : Entry) (es : List Entry) (docid start end : ℕ) → EntryPlaced (at + length (entryBytes before e)) (e .docid) es docid start end
+    → EntryPlaced at before (e ∷ es) docid start end
 placed-past at before e es docid start end p =
     record {
       passed = e ∷ p .passed;
@@ -72,7 +72,7 @@ placed-past at before e es docid start end p =
       ends = p .ends;
     }
 
-pub placed : (at before : ℕ) (es : List Entry) (docid start end : ℕ) → entryPlaceFrom at before es docid ≡ At start end → Placed at before es docid start end
+pub placed : (at before : ℕ) (es : List Entry) (docid start end : ℕ) → entryPlaceFrom at before es docid ≡ At start end → EntryPlaced at before es docid start end
 placed at before [] docid start end q = let z : _≡_ {A = ℕ} 0 1 = cc in absurd (omega arith)
 placed at before (e ∷ es) docid start end q =
     same-or (e .docid) docid
@@ -81,7 +81,7 @@ placed at before (e ∷ es) docid start end q =
 
 -- ---- what stands there
 
-module _ {es : List Entry} {docid start end : ℕ} (p : Placed 0 0 es docid start end) where
+module _ {es : List Entry} {docid start end : ℕ} (p : EntryPlaced 0 0 es docid start end) where
   pub placed-bytes : drop start (encodeList es) ≡ entryBytes (lastDocid 0 (p .passed)) (p .entry) ++ encodeFrom (p .entry .docid) (p .after)
   placed-bytes =
       ap (drop start) (ap encodeList (p .stands) ∙ encode-append 0 (p .passed) (p .entry ∷ p .after))
@@ -124,7 +124,7 @@ place-absent es docid = (absent-there 0 0 es docid, absent-back 0 0 es docid)
 -- ---- every entry of a well-formed list has its place
 
 pub place-of : (low count at before : ℕ) (es : List Entry) (e : Entry) → Entries low count es → List·Memᴰ e es
-    → (start end : ℕ) × (entryPlaceFrom at before es (e .docid) ≡ At start end) × (p : Placed at before es (e .docid) start end) × (p .entry ≡ e)
+    → (start end : ℕ) × (entryPlaceFrom at before es (e .docid) ≡ At start end) × (p : EntryPlaced at before es (e .docid) start end) × (p .entry ≡ e)
 unfolding placed-here placed-past
 place-of low count at before [] e h m = absurd (List·Memᴰ·not-nil m)
 place-of low count at before (x ∷ es) e h m =

@@ -2,19 +2,19 @@
 use Prim.Native.Nat.{ℕ, zero, suc, _+_, _-_, _≤_, _<_}
 use native.Mathlib.Omega.{arith}
 use mathlib.Core.Path.{_≡_, refl, sym, _∙_, subst}
-use mathlib.Core.Bool.{true, false}
 use mathlib.Core.List.{List}
 use lib.ListN.{length}
 use lib.Dec.{ltb, leb, eqb}
 use borrow.Author.Tests.{lt-ltb, le-ltb, ltb-true, eq-eqb, ne-eqb}
 use Rattle.common.specs.Pick.{pick}
 use Rattle.common.proofs.Cases.{bool-case, pick-case, split}
+use Rattle.common.specs.Bounds.{maxColumns}
 use Rattle.varint.specs.Varint.{readAt, onVarint}
 use Rattle.varint.specs.declared.Varint.{Varint}
 use Rattle.varint.specs.declared.Varint.the-variants.{Value, Refused}
 use Rattle.varint.proofs.Laws.{stored-at, next-after, next-within}
-use Rattle.doclist.specs.Doclist.{maxColumns, docidLimit, positionLimit}
-use Rattle.doclist.specs.Checking.{positionOf, stepOf, endedOf, checkFrom, checkOf}
+use Rattle.doclist.specs.Doclist.{docidLimit, positionLimit}
+use Rattle.doclist.specs.Checking.{positionState, checkStep, endedOf, checkFrom, checkOf}
 use Rattle.doclist.specs.Spots.{spotOf, announcedOf, spotAfter, Checking, Closes}
 use Rattle.doclist.specs.declared.State.{State}
 use Rattle.doclist.specs.declared.State.the-variants.{Start, Between, Open, Name, Named, Broken}
@@ -31,7 +31,7 @@ pub inside : (s : List ℕ) (i v n : ℕ) → readAt s i ≡ Value v n → (i < 
 inside s i v n e = let st = stored-at s i v n .0 e in (next-after (omega arith) st, next-within (omega arith) st)
 
 module _ {count : ℕ} {s : List ℕ} {i : ℕ} {q : State} (c : Checking count s i q) where
-  pub at-number : {v n : ℕ} → readAt s i ≡ Value v n → Checking count s n (stepOf count q v)
+  pub at-number : {v n : ℕ} → readAt s i ≡ Value v n → Checking count s n (checkStep count q v)
   at-number {v} {n} e = let h = inside s i v n e in checking-more c (omega arith) e
 
   -- an entry is not closed where no number is stored
@@ -47,7 +47,7 @@ broken-on (suc most) count s i =
     pick-case (λ r. r ≡ list-check.Refused) (ltb i (length s)) _ _ (λ _. go (readAt s i) (λ n. broken-on most count s n)) (λ _. refl)
   where
     go : (r : Varint) → ((n : ℕ) → checkFrom most count s n Broken ≡ list-check.Refused)
-        → onVarint list-check.Refused r (λ v next. checkFrom most count s next (stepOf count Broken v)) ≡ list-check.Refused
+        → onVarint list-check.Refused r (λ v next. checkFrom most count s next (checkStep count Broken v)) ≡ list-check.Refused
     go (Value v n) f = f n
     go Refused f = refl
 
@@ -57,11 +57,11 @@ broken {count} {s} {i} c = c .goes-on ∙ broken-on (c .most) count s i
 -- ---- a position
 
 -- the machine's state at a position
-abbrev stateOf : ℕ → Spot → State
-stateOf d (spot.At c p n) = Open d c p (p + 1)
-stateOf d spot.Refused = Broken
+abbrev spotState : ℕ → Spot → State
+spotState d (spot.At c p n) = Open d c p (p + 1)
+spotState d spot.Refused = Broken
 
-spot-state : (d c b l v n : ℕ) → positionOf d c b l v ≡ stateOf d (spotOf c b l v n)
+spot-state : (d c b l v n : ℕ) → positionState d c b l v ≡ spotState d (spotOf c b l v n)
 spot-state d c b l v n =
     bool-case (ltb v 2) (λ e. simp e) λ e.
     bool-case (ltb (b + (v - 2)) l) (λ f. simp (e, f)) λ f.
@@ -72,28 +72,28 @@ abbrev pub After : ℕ → List ℕ → ℕ → Spot → Type 0
 After count s d (spot.At c p n) = Checking count s n (Open d c p (p + 1))
 After count s d spot.Refused = checkOf count s ≡ list-check.Refused
 
--- a position is in bounds, and the next number stands behind the place `from`
+-- a position is in bounds, and the next number stands after the place `from`
 abbrev pub GoodSpot : ℕ → Spot → Type 0
 GoodSpot from (spot.At c p n) = (p < positionLimit) × (from ≤ n)
 GoodSpot from spot.Refused = Unit {0}
 
 -- the next number stands at the place `n`
-abbrev StandsAt : ℕ → Spot → Type 0
-StandsAt n (spot.At c p m) = m ≡ n
-StandsAt n spot.Refused = Unit {0}
+abbrev NextAt : ℕ → Spot → Type 0
+NextAt n (spot.At c p m) = m ≡ n
+NextAt n spot.Refused = Unit {0}
 
-spot-stands : (c b l v n : ℕ) → StandsAt n (spotOf c b l v n)
+spot-stands : (c b l v n : ℕ) → NextAt n (spotOf c b l v n)
 spot-stands c b l v n =
-    pick-case (StandsAt n) (ltb v 2) _ _ (λ _. tt) λ _.
-    pick-case (StandsAt n) (ltb (b + (v - 2)) l) _ _ (λ _. tt) λ _.
-    pick-case (StandsAt n) (ltb (b + (v - 2)) positionLimit) _ _ (λ _. refl) λ _. tt
+    pick-case (NextAt n) (ltb v 2) _ _ (λ _. tt) λ _.
+    pick-case (NextAt n) (ltb (b + (v - 2)) l) _ _ (λ _. tt) λ _.
+    pick-case (NextAt n) (ltb (b + (v - 2)) positionLimit) _ _ (λ _. refl) λ _. tt
 
-after-of : {count n : ℕ} {s : List ℕ} (d : ℕ) (r : Spot) (q : State) → q ≡ stateOf d r → StandsAt n r → Checking count s n q → After count s d r
+after-of : {count n : ℕ} {s : List ℕ} (d : ℕ) (r : Spot) (q : State) → q ≡ spotState d r → NextAt n r → Checking count s n q → After count s d r
 after-of {count} {n} {s} d (spot.At c p m) q e z k =
     subst (λ (m : ℕ). Checking count s m (Open d c p (p + 1))) (sym z) (subst (λ (x : State). Checking count s n x) e k)
 after-of {count} {n} {s} d spot.Refused q e z k = broken (subst (λ (x : State). Checking count s n x) e k)
 
-spot-after : {count n : ℕ} {s : List ℕ} (d c b l v : ℕ) → Checking count s n (positionOf d c b l v) → After count s d (spotOf c b l v n)
+spot-after : {count n : ℕ} {s : List ℕ} (d c b l v : ℕ) → Checking count s n (positionState d c b l v) → After count s d (spotOf c b l v n)
 spot-after {n = n} d c b l v k = after-of d (spotOf c b l v n) _ (spot-state d c b l v n) (spot-stands c b l v n) k
 
 spot-good : (from c b l v n : ℕ) → from ≤ n → GoodSpot from (spotOf c b l v n)
@@ -104,7 +104,7 @@ spot-good from c b l v n h =
 
 -- ---- a column and its first position
 
--- behind the column's number
+-- after the column's number
 first-after : {count : ℕ} (s : List ℕ) (d c behind : ℕ) (r : Varint) → readAt s behind ≡ r → Checking count s behind (Named d c)
     → After count s d (onVarint spot.Refused r (λ v next. spotOf c 0 0 v next))
 first-after s d c behind (Value v n) e k = spot-after d c 0 0 v (at-number k e)
@@ -113,7 +113,7 @@ first-after s d c behind Refused e k = at-refused k refl e
 announced-after : {count d : ℕ} (s : List ℕ) (at c : ℕ) → Checking count s at (Name d c) → After count s d (announcedOf count s at c)
 announced-after {count} {d} s at c k = go (readAt s at) refl
   where
-    named : (name behind : ℕ) → Checking count s behind (stepOf count (Name d c) name)
+    named : (name behind : ℕ) → Checking count s behind (checkStep count (Name d c) name)
         → After count s d (pick (leb name c) spot.Refused
         (pick (ltb name count) (onVarint spot.Refused (readAt s behind) (λ v next. spotOf name 0 0 v next)) spot.Refused))
     named name behind j =
@@ -161,7 +161,7 @@ closed-here {v = v} k e z = rw (eq-eqb v 0 z) at (at-number k e)
 
 -- ---- the invariant of `close`
 
--- from where the columns begin, the machine comes to the place `i`, in a column behind the position `base`
+-- from where the columns begin, the machine comes to the place `i`, in a column after the position `base`
 pub record Closing (count : ℕ) (s : List ℕ) (at column base low i : ℕ) : Type 0 where
   pub small : base < positionLimit
   pub passed : at ≤ i

@@ -11,7 +11,7 @@ use Rattle.varint.specs.Varint.{readAt}
 use Rattle.varint.specs.declared.Varint.the-variants.{Value, Refused}
 use Rattle.varint.proofs.Laws.{stored-at, next-after}
 use Rattle.doclist.specs.Doclist.{docidLimit, positionLimit}
-use Rattle.doclist.specs.Checking.{Sane, positionOf, stepOf, endedOf, checkFrom, checkOf}
+use Rattle.doclist.specs.Checking.{Sane, positionState, checkStep, endedOf, checkFrom, checkOf}
 use Rattle.doclist.specs.Spots.{Checking}
 use Rattle.doclist.specs.declared.State.{State}
 use Rattle.doclist.specs.declared.State.the-variants.{Start, Between, Open, Name, Named, Broken}
@@ -19,13 +19,13 @@ use Rattle.doclist.specs.declared.ListCheck.the-variants as list-check
 
 -- ---- a state keeps its bounds
 
-position-sane : (d c b l v : ℕ) → d < docidLimit → Sane (positionOf d c b l v)
+position-sane : (d c b l v : ℕ) → d < docidLimit → Sane (positionState d c b l v)
 position-sane d c b l v h =
     pick-case Sane (ltb v 2) _ _ (λ _. tt) λ _.
     pick-case Sane (ltb (b + (v - 2)) l) _ _ (λ _. tt) λ _.
     pick-case Sane (ltb (b + (v - 2)) positionLimit) _ _ (λ e. (h, ltb-true _ _ e, omega arith)) λ _. tt
 
-pub sane-step : (count : ℕ) (q : State) (v : ℕ) → Sane q → v < 2 ^ 63 → Sane (stepOf count q v)
+pub sane-step : (count : ℕ) (q : State) (v : ℕ) → Sane q → v < 2 ^ 63 → Sane (checkStep count q v)
 sane-step count Start v s h = (h, omega arith, omega arith)
 sane-step count (Between d) v s h =
     pick-case Sane (eqb v 0) _ _ (λ _. tt) λ _.
@@ -52,13 +52,13 @@ module _ (count : ℕ) (s : List ℕ) (i : ℕ) (q : State) where
   check-refused zero f h e = absurd (omega arith)
   check-refused (suc k) f h e = simp (lt-ltb _ _ h, e)
 
-  pub check-value : (k v n : ℕ) → i < length s → readAt s i ≡ Value v n → checkFrom (suc k) count s i q ≡ checkFrom k count s n (stepOf count q v)
+  pub check-value : (k v n : ℕ) → i < length s → readAt s i ≡ Value v n → checkFrom (suc k) count s i q ≡ checkFrom k count s n (checkStep count q v)
   unfolding checkFrom
   check-value k v n h e = simp (lt-ltb _ _ h, e)
 
   -- one more number is taken
   pub check-again : (k v n : ℕ) → length s ≤ i + k → i < length s → readAt s i ≡ Value v n → i < n
-      → (j : ℕ) × (length s ≤ n + j) × (checkFrom k count s i q ≡ checkFrom j count s n (stepOf count q v))
+      → (j : ℕ) × (length s ≤ n + j) × (checkFrom k count s i q ≡ checkFrom j count s n (checkStep count q v))
   check-again zero v n f h e l = absurd (omega arith)
   check-again (suc k) v n f h e l = (k, omega arith, check-value k v n h e)
 
@@ -71,7 +71,7 @@ module _ {count : ℕ} {s : List ℕ} {i : ℕ} {q : State} (c : Checking count 
   pub checking-refused : i < length s → readAt s i ≡ Refused → checkOf count s ≡ list-check.Refused
   checking-refused h e = c .goes-on ∙ check-refused count s i q (c .most) (c .enough) h e
 
-  pub checking-more : {v n : ℕ} → i < length s → readAt s i ≡ Value v n → Checking count s n (stepOf count q v)
+  pub checking-more : {v n : ℕ} → i < length s → readAt s i ≡ Value v n → Checking count s n (checkStep count q v)
   checking-more {v} {n} h e =
       let st = stored-at s i v n .0 e in
       let r = check-again count s i q (c .most) v n (c .enough) h e (next-after (omega arith) st) in

@@ -3,8 +3,8 @@ use Prim.Native.Nat.{ℕ, zero, suc, _+_, _-_, _≤_, _<_}
 use native.Mathlib.Omega.{arith}
 use mathlib.Core.Path.{_≡_, refl, sym, ap, ap₂, _∙_, subst}
 use mathlib.Core.List.{List, [], _∷_, _++_, append-assoc}
+use Rattle.common.proofs.Lists.{head-same, tail-same, no-element}
 use Rattle.doclist.specs.Doclist.{Column, Entry, positionLimit, Rising, NotEmpty, Columns, Entries, WellFormed, positionNumbers, announced, columnNumbers, encodeList}
-use Rattle.doclist.proofs.General.{head-is, tail-is, not-nil}
 use Rattle.doclist.proofs.Numbers.{all-split, listNumbers, list-bytes}
 use Rattle.doclist.proofs.Law.{small-entries}
 
@@ -16,8 +16,8 @@ Low [] = ⊥
 Low (r ∷ rs) = r < 2
 
 low-head {ℓ} : {X : Type ℓ} (v : ℕ) (vs rs : List ℕ) → 2 ≤ v → Low rs → v ∷ vs ≡ rs → X
-low-head v vs [] h l e = not-nil (sym e)
-low-head v vs (r ∷ rs) h l e = let p = head-is e in absurd (omega arith)
+low-head v vs [] h l e = no-element (sym e)
+low-head v vs (r ∷ rs) h l e = let p = head-same e in absurd (omega arith)
 
 positions-split : (l b : ℕ) (ps qs rs us : List ℕ) → b ≤ l → Rising l positionLimit ps → Rising l positionLimit qs → Low rs → Low us
     → positionNumbers b ps ++ rs ≡ positionNumbers b qs ++ us → (ps ≡ qs) × (rs ≡ us)
@@ -25,9 +25,9 @@ positions-split l b [] [] rs us h hp hq lr lu e = (refl, e)
 positions-split l b [] (q ∷ qs) rs us h hp hq lr lu e = low-head (q - b + 2) _ rs (omega arith) lr (sym e)
 positions-split l b (p ∷ ps) [] rs us h hp hq lr lu e = low-head (p - b + 2) _ us (omega arith) lu e
 positions-split l b (p ∷ ps) (q ∷ qs) rs us h hp hq lr lu e =
-    let n = head-is e in
+    let n = head-same e in
     let pq : p ≡ q = omega (arith, hp .0, hq .0) in
-    let k = positions-split (suc p) p ps qs rs us (omega arith) (hp .2) (rw (sym pq) at (hq .2)) lr lu (tail-is e ∙ ap (λ (x : ℕ). positionNumbers x qs ++ us) (sym pq)) in
+    let k = positions-split (suc p) p ps qs rs us (omega arith) (hp .2) (rw (sym pq) at (hq .2)) lr lu (tail-same e ∙ ap (λ (x : ℕ). positionNumbers x qs ++ us) (sym pq)) in
     (ap₂ _∷_ pq (k .0), k .1)
 
 -- ---- columns
@@ -54,22 +54,22 @@ numbers-named n c cs xs e =
 -- the first number of a column's positions is at least 2
 first-position {ℓ} : {X : Type ℓ} (b : ℕ) (ps rs : List ℕ) (v : ℕ) (vs : List ℕ) → NotEmpty ps → v < 2 → v ∷ vs ≡ positionNumbers b ps ++ rs → X
 first-position b [] rs v vs s h e = absurd s
-first-position b (p ∷ ps) rs v vs s h e = let n = head-is e in absurd (omega arith)
+first-position b (p ∷ ps) rs v vs s h e = let n = head-same e in absurd (omega arith)
 
 module _ (count : ℕ) where
   columns-split : (l : ℕ) (cs ds : List Column) (xs ys : List ℕ) → Columns l count cs → Columns l count ds
       → columnNumbers cs ++ (0 ∷ xs) ≡ columnNumbers ds ++ (0 ∷ ys) → (cs ≡ ds) × (xs ≡ ys)
-  columns-split l [] [] xs ys h k e = (refl, tail-is e)
+  columns-split l [] [] xs ys h k e = (refl, tail-same e)
   columns-split l [] (d ∷ ds) xs ys h k e = go (d .column) refl
     where
       go : (n : ℕ) → d .column ≡ n → ([] ≡ d ∷ ds) × (xs ≡ ys)
       go zero m = first-position 0 (d .positions) _ 0 xs (k .2) (omega arith) (e ∙ numbers-named 0 d ds ys m)
-      go (suc n) m = let z = head-is (e ∙ numbers-named (suc n) d ds ys m) in absurd (omega arith)
+      go (suc n) m = let z = head-same (e ∙ numbers-named (suc n) d ds ys m) in absurd (omega arith)
   columns-split l (c ∷ cs) [] xs ys h k e = go (c .column) refl
     where
       go : (n : ℕ) → c .column ≡ n → (c ∷ cs ≡ []) × (xs ≡ ys)
       go zero m = first-position 0 (c .positions) _ 0 ys (h .2) (omega arith) (sym e ∙ numbers-named 0 c cs xs m)
-      go (suc n) m = let z = head-is (sym e ∙ numbers-named (suc n) c cs xs m) in absurd (omega arith)
+      go (suc n) m = let z = head-same (sym e ∙ numbers-named (suc n) c cs xs m) in absurd (omega arith)
   columns-split l (c ∷ cs) (d ∷ ds) xs ys h k e = go (c .column) (d .column) refl refl (columns-split (suc (c .column)) cs ds xs ys (h .4))
     where
       both : c .column ≡ d .column → columnRest c cs xs ≡ columnRest d ds ys
@@ -88,19 +88,19 @@ module _ (count : ℕ) where
       go zero (suc m) p q ih = first-position 0 (c .positions) _ 1 _ (h .2) (omega arith) (sym (numbers-named (suc m) d ds ys q) ∙ sym e ∙ numbers-named 0 c cs xs p)
       go (suc n) zero p q ih = first-position 0 (d .positions) _ 1 _ (k .2) (omega arith) (sym (numbers-named (suc n) c cs xs p) ∙ e ∙ numbers-named 0 d ds ys q)
       go (suc n) (suc m) p q ih =
-          let r = tail-is (sym (numbers-named (suc n) c cs xs p) ∙ e ∙ numbers-named (suc m) d ds ys q) in
-          both (p ∙ head-is r ∙ sym q) (tail-is r) ih
+          let r = tail-same (sym (numbers-named (suc n) c cs xs p) ∙ e ∙ numbers-named (suc m) d ds ys q) in
+          both (p ∙ head-same r ∙ sym q) (tail-same r) ih
 
   -- ---- entries
 
   entries-split : (l b : ℕ) (es fs : List Entry) → b ≤ l → Entries l count es → Entries l count fs → listNumbers b es ≡ listNumbers b fs → es ≡ fs
   entries-split l b [] [] h he hf e = refl
-  entries-split l b [] (f ∷ fs) h he hf e = not-nil e
-  entries-split l b (d ∷ es) [] h he hf e = not-nil (sym e)
+  entries-split l b [] (f ∷ fs) h he hf e = no-element e
+  entries-split l b (d ∷ es) [] h he hf e = no-element (sym e)
   entries-split l b (d ∷ es) (f ∷ fs) h he hf e =
-      let n = head-is e in
+      let n = head-same e in
       let m : d .docid ≡ f .docid = omega (arith, he .0, hf .0) in
-      let c = columns-split 0 (d .columns) (f .columns) _ _ (he .2) (hf .2) (tail-is e) in
+      let c = columns-split 0 (d .columns) (f .columns) _ _ (he .2) (hf .2) (tail-same e) in
       let r = entries-split (suc (d .docid)) (d .docid) es fs (omega arith) (he .3) (subst (λ (j : ℕ). Entries (suc j) count fs) (sym m) (hf .3))
       (c .1 ∙ ap (λ (j : ℕ). listNumbers j fs) (sym m)) in
       ap₂ _∷_ (λ i. record { docid = m i; columns = c .0 i }) r

@@ -6,8 +6,9 @@ use lib.ListN.{length}
 use lib.Dec.{ltb, leb, eqb}
 use Rattle.common.specs.Pick.{pick}
 use Rattle.common.specs.Bytes.{within}
+use Rattle.common.specs.Bounds.{maxColumns}
 use Rattle.varint.specs.Varint.{readAt, onVarint}
-use Rattle.doclist.specs.Doclist.{maxColumns, docidLimit, positionLimit}
+use Rattle.doclist.specs.Doclist.{docidLimit, positionLimit}
 use Rattle.doclist.specs.declared.State.{State}
 use Rattle.doclist.specs.declared.State.the-variants.{Start, Between, Open, Name, Named, Broken}
 use Rattle.doclist.specs.declared.ListCheck.{ListCheck}
@@ -25,28 +26,28 @@ Sane (Named d c) = d < docidLimit
 Sane Broken = Unit {0}
 
 -- after a position's number: `base` is the position before (0 for the first), `low` the least that may come
-abbrev pub positionOf : ℕ → ℕ → ℕ → ℕ → ℕ → State
-positionOf d c base low v =
+abbrev pub positionState : ℕ → ℕ → ℕ → ℕ → ℕ → State
+positionState d c base low v =
     pick (ltb v 2) Broken
     (pick (ltb (base + (v - 2)) low) Broken
     (pick (ltb (base + (v - 2)) positionLimit) (Open d c (base + (v - 2)) (base + (v - 2) + 1)) Broken))
 
--- after a docid's difference, behind the entry of the docid `d`
+-- once a docid's difference was read, after the entry of the docid `d`
 abbrev pub nextDocidOf : ℕ → ℕ → State
 nextDocidOf d v = pick (eqb v 0) Broken (pick (ltb v (docidLimit - d)) (Open (d + v) 0 0 0) Broken)
 
--- after a column's number, behind the column `c`
+-- once a column's number was read, after the column `c`
 abbrev pub nextColumnOf : ℕ → ℕ → ℕ → ℕ → State
 nextColumnOf count d c v = pick (leb v c) Broken (pick (ltb v count) (Named d v) Broken)
 
 -- after one more number
-abbrev pub stepOf : ℕ → State → ℕ → State
-stepOf count Start v = Open v 0 0 0
-stepOf count (Between d) v = nextDocidOf d v
-stepOf count (Open d c b l) v = pick (eqb v 0) (Between d) (pick (eqb v 1) (Name d c) (positionOf d c b l v))
-stepOf count (Name d c) v = nextColumnOf count d c v
-stepOf count (Named d c) v = positionOf d c 0 0 v
-stepOf count Broken v = Broken
+abbrev pub checkStep : ℕ → State → ℕ → State
+checkStep count Start v = Open v 0 0 0
+checkStep count (Between d) v = nextDocidOf d v
+checkStep count (Open d c b l) v = pick (eqb v 0) (Between d) (pick (eqb v 1) (Name d c) (positionState d c b l v))
+checkStep count (Name d c) v = nextColumnOf count d c v
+checkStep count (Named d c) v = positionState d c 0 0 v
+checkStep count Broken v = Broken
 
 -- ---- checking a list
 
@@ -64,7 +65,7 @@ unfoldable pub checkFrom : ℕ → ℕ → List ℕ → ℕ → State → ListCh
 checkFrom zero count s i q = endedOf q
 checkFrom (suc most) count s i q =
     pick (ltb i (length s))
-    (onVarint list-check.Refused (readAt s i) (λ v next. checkFrom most count s next (stepOf count q v)))
+    (onVarint list-check.Refused (readAt s i) (λ v next. checkFrom most count s next (checkStep count q v)))
     (endedOf q)
 
 -- the whole list; a table has 1 to 16 columns
@@ -83,7 +84,7 @@ notFoundOf (Named d c) = entry-at.Refused
 notFoundOf Broken = entry-at.Refused
 
 -- after a number up to `next`, in an entry that began at `start`: where the entry closes, it is the one that is sought, or
--- lies behind it, or the next one begins; else `go` goes on with the same entry
+-- lies after it, or the next one begins; else `go` goes on with the same entry
 abbrev pub onClosed : ℕ → ℕ → ℕ → State → (ℕ → EntryAt) → EntryAt
 onClosed docid start next Start go = go start
 onClosed docid start next (Between d) go = pick (eqb d docid) (entry-at.At start next) (pick (ltb docid d) entry-at.Absent (go next))
@@ -98,7 +99,7 @@ findFrom zero count s docid start i q = notFoundOf q
 findFrom (suc most) count s docid start i q =
     pick (ltb i (length s))
     (onVarint entry-at.Refused (readAt s i)
-    (λ v next. onClosed docid start next (stepOf count q v) (λ from. findFrom most count s docid from next (stepOf count q v))))
+    (λ v next. onClosed docid start next (checkStep count q v) (λ from. findFrom most count s docid from next (checkStep count q v))))
     (notFoundOf q)
 
 -- in the whole list; a table has 1 to 16 columns

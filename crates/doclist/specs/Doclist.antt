@@ -7,6 +7,7 @@ use mathlib.Core.List.{List, [], _∷_, _++_}
 use lib.ListN.{length}
 use lib.Dec.{eqb}
 use Rattle.common.specs.Pick.{pick}
+use Rattle.common.specs.Bounds.{maxColumns}
 use Rattle.varint.specs.Varint.{encode}
 use Rattle.doclist.specs.declared.EntryAt.{EntryAt}
 use Rattle.doclist.specs.declared.EntryAt.the-variants.{At, Absent}
@@ -24,10 +25,6 @@ pub record Entry : Type 0 where
   pub columns : List Column
 
 -- ---- the rules
-
--- a table has 1 to 16 columns
-abbrev pub maxColumns : ℕ
-maxColumns = 16
 
 -- docids are 0 to 2^63 - 1
 abbrev pub docidLimit : ℕ
@@ -100,7 +97,7 @@ encodeAll (v ∷ vs) = encode v ++ encodeAll vs
 abbrev pub entryBytes : ℕ → Entry → List ℕ
 entryBytes before e = encodeAll (entryNumbers before e)
 
--- entries behind the docid `before`
+-- entries after the docid `before`
 abbrev pub encodeFrom : ℕ → List Entry → List ℕ
 encodeFrom before [] = []
 encodeFrom before (e ∷ es) = entryBytes before e ++ encodeFrom (e .docid) es
@@ -111,7 +108,7 @@ encodeList es = encodeFrom 0 es
 
 -- ---- where the entry of a docid stands: from its docid number to its closing 0
 
--- entries behind the docid `before`, which stand from the place `at` on
+-- entries after the docid `before`, which stand from the place `at` on
 abbrev pub entryPlaceFrom : ℕ → ℕ → List Entry → ℕ → EntryAt
 entryPlaceFrom at before [] docid = Absent
 entryPlaceFrom at before (e ∷ es) docid =

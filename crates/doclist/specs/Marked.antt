@@ -5,7 +5,8 @@ use Prim.Native.Nat.{ℕ, _≤_}
 use mathlib.Core.Path.{_≡_}
 use mathlib.Core.List.{List, [], _∷_}
 use Rattle.common.specs.Marked.{Example}
-use Rattle.doclist.specs.Doclist.{Entry, maxColumns, encodeList}
+use Rattle.common.specs.Bounds.{maxColumns}
+use Rattle.doclist.specs.Doclist.{Entry, encodeList}
 use Rattle.doclist.specs.Checking.{checkOf}
 use Rattle.doclist.specs.declared.ListCheck.the-variants.{Accepted, Refused}
 

@@ -28,11 +28,11 @@ spotOf c base low v next =
 abbrev pub announcedOf : ℕ → List ℕ → ℕ → ℕ → Spot
 announcedOf count s at c =
     onVarint spot.Refused (readAt s at)
-    (λ name behind.
+    (λ name after.
     pick (leb name c) spot.Refused
-    (pick (ltb name count) (onVarint spot.Refused (readAt s behind) (λ v next. spotOf name 0 0 v next)) spot.Refused))
+    (pick (ltb name count) (onVarint spot.Refused (readAt s after) (λ v next. spotOf name 0 0 v next)) spot.Refused))
 
--- the position that comes next in an entry, behind the number `v`, which is not 0
+-- the position that comes next in an entry, after the number `v`, which is not 0
 abbrev pub spotAfter : ℕ → List ℕ → ℕ → ℕ → ℕ → ℕ → ℕ → Spot
 spotAfter count s c base low v next = pick (eqb v 1) (announcedOf count s next c) (spotOf c base low v next)
 

@@ -10,7 +10,7 @@ ghost use mathlib.Core.List.{List};
 ghost use Prim.Native.Nat.{_^_, _<_};
 ghost use Rattle.doclist.specs.Doclist.{Entry, WellFormed, encodeList, entryPlace, docidLimit, positionLimit};
 ghost use Rattle.doclist.specs.Spots.{spotOf, announcedOf, spotAfter, Closes};
-ghost use Rattle.doclist.specs.Checking.{Sane, positionOf, nextDocidOf, nextColumnOf, stepOf, checkOf, notFoundOf, findOf};
+ghost use Rattle.doclist.specs.Checking.{Sane, positionState, nextDocidOf, nextColumnOf, checkStep, checkOf, notFoundOf, findOf};
 
 // The number that closes an entry.
 const POS_END: u64 = 0;
@@ -22,13 +22,10 @@ const POS_COLUMN: u64 = 1;
 const POS_BASE: u64 = 2;
 
 // A docid is below 2^63.
-const DOCID_LIMIT: u64 = 0x8000_0000_0000_0000;
+pub const DOCID_LIMIT: u64 = 0x8000_0000_0000_0000;
 
 // A position is below 2^31.
 const POSITION_LIMIT: u64 = 0x8000_0000;
-
-// A table has 1 to 16 columns.
-const MAX_COLUMNS: u64 = 16;
 
 // Which number of a list comes next.
 pub enum State {
@@ -45,7 +42,7 @@ pub enum State {
         base: u64,
         low: u64,
     },
-    // A column above `column`, behind the number 1.
+    // A column above `column`, after the number 1.
     Name {
         docid: u64,
         column: u64,
@@ -61,7 +58,7 @@ pub enum State {
 
 // A position of an entry.
 enum Spot {
-    // In a column; the number behind it is at `next`.
+    // In a column; the number after it is at `next`.
     At {
         column: u64,
         position: u64,
@@ -73,7 +70,7 @@ enum Spot {
 
 // Where an entry ends.
 enum Closed {
-    // Behind its closing 0.
+    // After its closing 0.
     At(usize),
     // A rule is broken, or the list ends inside the entry.
     Refused,
@@ -87,7 +84,7 @@ pub enum ListCheck {
 
 // Where the entry of a docid stands in a list.
 pub enum EntryAt {
-    // From `start`, its docid number, up to `end`, behind its closing 0.
+    // From `start`, its docid number, up to `end`, after its closing 0.
     At { start: usize, end: usize },
     // No entry has the docid.
     Absent,
@@ -98,7 +95,7 @@ pub enum EntryAt {
 // The state after a position's number.
 fn position(docid: u64, column: u64, base: u64, low: u64, v: u64) -> State
     requires { ⌜ (base < positionLimit) × (v < 2 ^ 63) ⌝ }
-    ensures { λ r. ⌜ r ≡ positionOf docid column base low v ⌝ }
+    ensures { λ r. ⌜ r ≡ positionState docid column base low v ⌝ }
 {
     if v < POS_BASE {
         return State::Broken;
@@ -156,7 +153,7 @@ fn next_column(docid: u64, column: u64, v: u64, columns: u64) -> State
 // The state after one more number.
 fn step(q: State, v: u64, columns: u64) -> State
     requires { ⌜ Sane q × (v < 2 ^ 63) ⌝ }
-    ensures { λ r. ⌜ r ≡ stepOf columns q v ⌝ }
+    ensures { λ r. ⌜ r ≡ checkStep columns q v ⌝ }
 {
     match q {
         State::Start => State::Open {
@@ -186,7 +183,7 @@ fn step(q: State, v: u64, columns: u64) -> State
     }
 }
 
-// The position that a number stands for; the number behind it is at `next`.
+// The position that a number stands for; the number after it is at `next`.
 fn spot_at(column: u64, base: u64, low: u64, v: u64, next: usize) -> Spot
     requires { ⌜ (base < positionLimit) × (v < 2 ^ 63) ⌝ }
     ensures { λ r. ⌜ r ≡ spotOf column base low v next ⌝ }
@@ -209,13 +206,13 @@ fn spot_at(column: u64, base: u64, low: u64, v: u64, next: usize) -> Spot
     }
 }
 
-// The first position of the column that is announced at `at`, behind the number 1.
+// The first position of the column that is announced at `at`, after the number 1.
 fn announced(s: &[u8], at: usize, column: u64, columns: u64) -> Spot
     ensures { λ r. ⌜ r ≡ announcedOf columns (now (s .entry)) at column ⌝ }
 {
     let Varint::Value {
         value: name,
-        next: behind,
+        next: after,
     } = varint::read(s, at)
     else {
         return Spot::Refused;
@@ -226,7 +223,7 @@ fn announced(s: &[u8], at: usize, column: u64, columns: u64) -> Spot
     if columns <= name {
         return Spot::Refused;
     }
-    let Varint::Value { value: v, next } = varint::read(s, behind) else {
+    let Varint::Value { value: v, next } = varint::read(s, after) else {
         return Spot::Refused;
     };
     spot_at(name, 0, 0, v, next)
@@ -261,7 +258,7 @@ fn close(s: &[u8], at: usize, columns: u64) -> Closed
         let Spot::At {
             column: in_column,
             position,
-            next: behind,
+            next: after,
         } = spot_after(s, column, base, low, v, next, columns)
         else {
             return Closed::Refused;
@@ -269,7 +266,7 @@ fn close(s: &[u8], at: usize, columns: u64) -> Closed
         column = in_column;
         base = position;
         low = position + 1;
-        i = behind;
+        i = after;
     }
 }
 
@@ -281,7 +278,7 @@ pub fn check(s: &[u8], columns: u64) -> ListCheck
     if columns == 0 {
         return ListCheck::Refused;
     }
-    if MAX_COLUMNS < columns {
+    if (common::MAX_COLUMNS as u64) < columns {
         return ListCheck::Refused;
     }
     let Varint::Value {
@@ -347,7 +344,7 @@ pub fn find(s: &[u8], columns: u64, docid: u64) -> EntryAt
     if columns == 0 {
         return EntryAt::Refused;
     }
-    if MAX_COLUMNS < columns {
+    if (common::MAX_COLUMNS as u64) < columns {
         return EntryAt::Refused;
     }
     let mut q = State::Start;

@@ -2,27 +2,26 @@
 use Prim.Native.Nat.{ℕ}
 use mathlib.Core.Path.{_≡_, refl, sym, subst}
 use mathlib.Core.Logic.{_⊎_, inl, inr, ⊎-elim}
-use mathlib.Core.Bool.{true, false}
+use mathlib.Core.Bool.{true}
 use mathlib.Core.List.{List, [], _∷_, List·Memᴰ, List·Memᴰ·head, List·Memᴰ·tail, List·Memᴰ·not-nil, List·Memᴰ·cases-cons}
-use Rattle.common.specs.Pick.{pick}
 use Rattle.common.specs.Bytes.{same}
-use Rattle.common.proofs.Lists.{same-refl}
+use Rattle.common.proofs.Same.{same-refl}
+use Rattle.common.proofs.Members.{Rise, each-member, member-each, rise-unique}
 use Rattle.leaf.specs.Leaf.{Before}
-use Rattle.document.specs.Document.{earlier, insertWord, distinct}
-use Rattle.document.proofs.General.{Each, Rise, each-member, member-each, rise-unique}
+use Rattle.document.specs.Document.{insertWord, distinct}
 use Rattle.leaf.proofs.Words.{before-irrefl, before-trans, before-case}
-use Rattle.document.proofs.Order.{before-earlier, later-not-earlier, same-not-earlier, later-not-same}
+use Rattle.leaf.proofs.Orders.{before-law, later-not-before, same-not-before, later-not-same}
 
 -- ---- where a word goes
 
 pub insert-first : (w v : List ℕ) (vs : List (List ℕ)) → Before w v → insertWord w (v ∷ vs) ≡ w ∷ v ∷ vs
-insert-first w v vs h = rw (before-earlier w v h) refl
+insert-first w v vs h = rw (before-law w v .1 h) refl
 
 pub insert-there : (w v : List ℕ) (vs : List (List ℕ)) → w ≡ v → insertWord w (v ∷ vs) ≡ v ∷ vs
-insert-there w v vs e = rw (same-not-earlier w v e, subst (λ x. same w x ≡ true) e (same-refl w)) refl
+insert-there w v vs e = rw (same-not-before w v e, subst (λ x. same w x ≡ true) e (same-refl w)) refl
 
 pub insert-later : (w v : List ℕ) (vs : List (List ℕ)) → Before v w → insertWord w (v ∷ vs) ≡ v ∷ insertWord w vs
-insert-later w v vs h = rw (later-not-earlier v w h, later-not-same v w h) refl
+insert-later w v vs h = rw (later-not-before v w h, later-not-same v w h) refl
 
 -- ---- members
 

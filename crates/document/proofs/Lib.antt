@@ -1,10 +1,8 @@
-pub mod General
-pub mod Order
+-- The laws of this crate, in the order in which they build on each other.
 pub mod Distinct
 pub mod Places
 pub mod Weight
 pub mod Terms
-pub mod Keyed
 pub mod Only
 pub mod Size
 pub mod Reading

@@ -3,22 +3,17 @@
 use Prim.Native.Nat.{ℕ, suc, _≤_, _<_}
 use native.Mathlib.Nat.{not-suc-le-zero}
 use native.Mathlib.Omega.{arith}
-use mathlib.Core.Path.{_≡_, refl, sym, ap, ap₂, subst, _∙_}
+use mathlib.Core.Path.{_≡_, refl, sym, ap₂, subst, _∙_}
 use mathlib.Core.List.{List, [], _∷_, List·Memᴰ, List·Memᴰ·head, List·Memᴰ·tail}
 use lib.ListN.{length}
+use Rattle.common.proofs.Members.{member-some, Each, Rise, each-member, member-each, rise-unique}
+use Rattle.common.proofs.Keyed.{Says, keyed-unique}
+use Rattle.common.proofs.Numbers.{less-irrefl, less-trans}
 use Rattle.doclist.specs.Doclist.{Column, Entry, Rising, NotEmpty, Columns, Entries, positionLimit}
 use Rattle.leaf.specs.Leaf.{Term, Before, GoodTerm, Terms, WellFormed}
 use Rattle.document.specs.Document.{documentTerms, Writable, Posted, IsDocument}
-use Rattle.document.proofs.General.{member-some, Each, Rise, each-member, member-each, rise-unique}
 use Rattle.leaf.proofs.Words.{before-irrefl, before-trans}
-use Rattle.document.proofs.Keyed.{Says, keyed-unique}
 use Rattle.document.proofs.Terms.{document-is, docid-only, document-well-formed}
-
-less-never : (n : ℕ) → n < n → ⊥
-less-never n h = omega arith
-
-less-trans : (i j k : ℕ) → i < j → j < k → i < k
-less-trans i j k p q = omega arith
 
 -- ---- positions
 
@@ -33,8 +28,8 @@ rising-rise low limit (p ∷ ps) r = (rising-from (suc p) limit ps (r .2), risin
 
 -- ---- columns
 
-abbrev columnOf : Column → ℕ
-columnOf k = k .column
+abbrev columnNumber : Column → ℕ
+columnNumber k = k .column
 
 -- a column says its positions
 abbrev InColumn : Column → ℕ → Type 0
@@ -51,17 +46,17 @@ column-something k g = go (k .positions) (g .some)
     go [] s = absurd s
     go (p ∷ ps) s = (p, List·Memᴰ·head refl)
 
-column-ext : (j k : Column) → GoodColumn j → GoodColumn k → columnOf j ≡ columnOf k → ((p : ℕ) → InColumn j p → InColumn k p) → ((p : ℕ) → InColumn k p → InColumn j p) → j ≡ k
+column-ext : (j k : Column) → GoodColumn j → GoodColumn k → columnNumber j ≡ columnNumber k → ((p : ℕ) → InColumn j p → InColumn k p) → ((p : ℕ) → InColumn k p → InColumn j p) → j ≡ k
 column-ext j k g h e f b =
     ap₂ (λ c ps. record { column = c; positions = ps }) e
-    (rise-unique _<_ less-never less-trans (j .positions) (k .positions) (rising-rise 0 positionLimit (j .positions) (g .rising)) (rising-rise 0 positionLimit (k .positions) (h .rising)) f b)
+    (rise-unique _<_ less-irrefl less-trans (j .positions) (k .positions) (rising-rise 0 positionLimit (j .positions) (g .rising)) (rising-rise 0 positionLimit (k .positions) (h .rising)) f b)
 
 columns-from : (low count : ℕ) (cs : List Column) → Columns low count cs → Each (λ k. low ≤ k .column) cs
 columns-from low count [] r = tt
 columns-from low count (c ∷ cs) r =
     (r .0, member-each (λ k. low ≤ k .column) cs (λ k m. let h = each-member (λ x. suc (c .column) ≤ x .column) cs k (columns-from (suc (c .column)) count cs (r .4)) m in omega (arith, r .0)))
 
-columns-rise : (low count : ℕ) (cs : List Column) → Columns low count cs → Rise (λ j k. columnOf j < columnOf k) cs
+columns-rise : (low count : ℕ) (cs : List Column) → Columns low count cs → Rise (λ j k. columnNumber j < columnNumber k) cs
 columns-rise low count [] r = tt
 columns-rise low count (c ∷ cs) r = (columns-from (suc (c .column)) count cs (r .4), columns-rise (suc (c .column)) count cs (r .4))
 
@@ -71,28 +66,28 @@ columns-good low count (c ∷ cs) r = (record { some = r .2; rising = r .3 }, co
 
 -- ---- entries
 
-abbrev docidOf : Entry → ℕ
-docidOf e = e .docid
+abbrev entryDocid : Entry → ℕ
+entryDocid e = e .docid
 
 -- an entry says a column and a position
 abbrev InEntry : Entry → ℕ × ℕ → Type 0
-InEntry e z = Says columnOf InColumn (e .columns) (z .0) (z .1)
+InEntry e z = Says columnNumber InColumn (e .columns) (z .0) (z .1)
 
-record GoodEntry (count : ℕ) (e : Entry) : Type 0 where
+record WrittenEntry (count : ℕ) (e : Entry) : Type 0 where
   live : 0 < length (e .columns)
   good : Columns 0 count (e .columns)
 
-entry-something : (count : ℕ) (e : Entry) → GoodEntry count e → (z : ℕ × ℕ) × InEntry e z
+entry-something : (count : ℕ) (e : Entry) → WrittenEntry count e → (z : ℕ × ℕ) × InEntry e z
 entry-something count e g = go (e .columns) (g .live) (columns-good 0 count (e .columns) (g .good))
   where
-    go : (cs : List Column) → 0 < length cs → Each GoodColumn cs → (z : ℕ × ℕ) × Says columnOf InColumn cs (z .0) (z .1)
+    go : (cs : List Column) → 0 < length cs → Each GoodColumn cs → (z : ℕ × ℕ) × Says columnNumber InColumn cs (z .0) (z .1)
     go [] l h = absurd (not-suc-le-zero l)
     go (c ∷ cs) l h = let p = column-something c (h .0) in ((c .column, p .0), record { x = c; member = List·Memᴰ·head refl; has = refl; says = p .1 })
 
-entry-ext : (count : ℕ) (d e : Entry) → GoodEntry count d → GoodEntry count e → docidOf d ≡ docidOf e → ((z : ℕ × ℕ) → InEntry d z → InEntry e z) → ((z : ℕ × ℕ) → InEntry e z → InEntry d z) → d ≡ e
+entry-ext : (count : ℕ) (d e : Entry) → WrittenEntry count d → WrittenEntry count e → entryDocid d ≡ entryDocid e → ((z : ℕ × ℕ) → InEntry d z → InEntry e z) → ((z : ℕ × ℕ) → InEntry e z → InEntry d z) → d ≡ e
 entry-ext count d e g h q f b =
     ap₂ (λ n cs. record { docid = n; columns = cs }) q
-    (keyed-unique columnOf _<_ less-never less-trans InColumn GoodColumn column-something column-ext (d .columns) (e .columns)
+    (keyed-unique columnNumber _<_ less-irrefl less-trans InColumn GoodColumn column-something column-ext (d .columns) (e .columns)
     (columns-rise 0 count (d .columns) (g .good)) (columns-rise 0 count (e .columns) (h .good))
     (columns-good 0 count (d .columns) (g .good)) (columns-good 0 count (e .columns) (h .good))
     (λ c p. f (c, p)) (λ c p. b (c, p)))
@@ -102,22 +97,22 @@ entries-from low count [] r = tt
 entries-from low count (e ∷ es) r =
     (r .0, member-each (λ d. low ≤ d .docid) es (λ d m. let h = each-member (λ x. suc (e .docid) ≤ x .docid) es d (entries-from (suc (e .docid)) count es (r .3)) m in omega (arith, r .0)))
 
-entries-rise : (low count : ℕ) (es : List Entry) → Entries low count es → Rise (λ d e. docidOf d < docidOf e) es
+entries-rise : (low count : ℕ) (es : List Entry) → Entries low count es → Rise (λ d e. entryDocid d < entryDocid e) es
 entries-rise low count [] r = tt
 entries-rise low count (e ∷ es) r = (entries-from (suc (e .docid)) count es (r .3), entries-rise (suc (e .docid)) count es (r .3))
 
-entries-good : (low count : ℕ) (es : List Entry) → Entries low count es → Each (λ e. 0 < length (e .columns)) es → Each (GoodEntry count) es
+entries-good : (low count : ℕ) (es : List Entry) → Entries low count es → Each (λ e. 0 < length (e .columns)) es → Each (WrittenEntry count) es
 entries-good low count [] r l = tt
 entries-good low count (e ∷ es) r l = (record { live = l .0; good = r .2 }, entries-good (suc (e .docid)) count es (r .3) (l .1))
 
 -- ---- terms
 
-abbrev wordOf : Term → List ℕ
-wordOf t = t .word
+abbrev termWord : Term → List ℕ
+termWord t = t .word
 
 -- a term says a docid, a column and a position
 abbrev InTerm : Term → ℕ × (ℕ × ℕ) → Type 0
-InTerm t z = Says docidOf InEntry (t .entries) (z .0) (z .1)
+InTerm t z = Says entryDocid InEntry (t .entries) (z .0) (z .1)
 
 -- a term without deletions
 record LiveTerm (count : ℕ) (t : Term) : Type 0 where
@@ -127,14 +122,14 @@ record LiveTerm (count : ℕ) (t : Term) : Type 0 where
 term-something : (count : ℕ) (t : Term) → LiveTerm count t → (z : ℕ × (ℕ × ℕ)) × InTerm t z
 term-something count t g = go (t .entries) (g .good .list .some-entry) (entries-good 0 count (t .entries) (g .good .list .entries) (g .live))
   where
-    go : (es : List Entry) → 0 < length es → Each (GoodEntry count) es → (z : ℕ × (ℕ × ℕ)) × Says docidOf InEntry es (z .0) (z .1)
+    go : (es : List Entry) → 0 < length es → Each (WrittenEntry count) es → (z : ℕ × (ℕ × ℕ)) × Says entryDocid InEntry es (z .0) (z .1)
     go [] l h = absurd (not-suc-le-zero l)
     go (e ∷ es) l h = let p = entry-something count e (h .0) in ((e .docid, p .0), record { x = e; member = List·Memᴰ·head refl; has = refl; says = p .1 })
 
-term-ext : (count : ℕ) (s t : Term) → LiveTerm count s → LiveTerm count t → wordOf s ≡ wordOf t → ((z : ℕ × (ℕ × ℕ)) → InTerm s z → InTerm t z) → ((z : ℕ × (ℕ × ℕ)) → InTerm t z → InTerm s z) → s ≡ t
+term-ext : (count : ℕ) (s t : Term) → LiveTerm count s → LiveTerm count t → termWord s ≡ termWord t → ((z : ℕ × (ℕ × ℕ)) → InTerm s z → InTerm t z) → ((z : ℕ × (ℕ × ℕ)) → InTerm t z → InTerm s z) → s ≡ t
 term-ext count s t g h q f b =
     ap₂ (λ w es. record { word = w; entries = es }) q
-    (keyed-unique docidOf _<_ less-never less-trans InEntry (GoodEntry count) (entry-something count) (entry-ext count) (s .entries) (t .entries)
+    (keyed-unique entryDocid _<_ less-irrefl less-trans InEntry (WrittenEntry count) (entry-something count) (entry-ext count) (s .entries) (t .entries)
     (entries-rise 0 count (s .entries) (g .good .list .entries)) (entries-rise 0 count (t .entries) (h .good .list .entries))
     (entries-good 0 count (s .entries) (g .good .list .entries) (g .live)) (entries-good 0 count (t .entries) (h .good .list .entries) (h .live))
     (λ d z. f (d, z)) (λ d z. b (d, z)))
@@ -144,7 +139,7 @@ terms-from count before [] r = tt
 terms-from count before (t ∷ ts) r =
     (r .0, member-each (λ u. Before before (u .word)) ts (λ u m. before-trans before (t .word) (u .word) (r .0) (each-member (λ x. Before (t .word) (x .word)) ts u (terms-from count (t .word) ts (r .2)) m)))
 
-terms-rise : (count : ℕ) (before : List ℕ) (ts : List Term) → Terms count before ts → Rise (λ s t. Before (wordOf s) (wordOf t)) ts
+terms-rise : (count : ℕ) (before : List ℕ) (ts : List Term) → Terms count before ts → Rise (λ s t. Before (termWord s) (termWord t)) ts
 terms-rise count before [] r = tt
 terms-rise count before (t ∷ ts) r = (terms-from count (t .word) ts (r .2), terms-rise count (t .word) ts (r .2))
 
@@ -158,7 +153,7 @@ terms-live count before (t ∷ ts) r f = (
 
 -- ---- contents
 
-posted-says : (ts : List Term) (w : List ℕ) (d c p : ℕ) → Posted ts w d c p → Says wordOf InTerm ts w (d, (c, p))
+posted-says : (ts : List Term) (w : List ℕ) (d c p : ℕ) → Posted ts w d c p → Says termWord InTerm ts w (d, (c, p))
 posted-says ts w d c p q = record {
   x = q .term;
   member = q .in-leaf;
@@ -171,7 +166,7 @@ posted-says ts w d c p q = record {
   };
 }
 
-says-posted : (ts : List Term) (w : List ℕ) (d c p : ℕ) → Says wordOf InTerm ts w (d, (c, p)) → Posted ts w d c p
+says-posted : (ts : List Term) (w : List ℕ) (d c p : ℕ) → Says termWord InTerm ts w (d, (c, p)) → Posted ts w d c p
 says-posted ts w d c p s = record {
   term = s .x;
   entry = s .says .x;
@@ -193,7 +188,7 @@ pub content-unique : (count : ℕ) (ts us : List Term) → WellFormed count ts �
     → ((w : List ℕ) (d c p : ℕ) → Posted us w d c p → Posted ts w d c p)
     → ts ≡ us
 content-unique count ts us g h l m f b =
-    keyed-unique wordOf Before before-irrefl before-trans InTerm (LiveTerm count) (term-something count) (term-ext count) ts us
+    keyed-unique termWord Before before-irrefl before-trans InTerm (LiveTerm count) (term-something count) (term-ext count) ts us
     (terms-rise count [] ts (g .terms)) (terms-rise count [] us (h .terms))
     (terms-live count [] ts (g .terms) l) (terms-live count [] us (h .terms) m)
     (λ w z s. posted-says us w (z .0) (z .1 .0) (z .1 .1) (f w (z .0) (z .1 .0) (z .1 .1) (says-posted ts w (z .0) (z .1 .0) (z .1 .1) s)))

@@ -3,14 +3,13 @@
 use Prim.Native.Nat.{ℕ, zero, suc, _+_, _≤_, _<_}
 use native.Mathlib.Nat.{not-suc-le-zero, le-of-suc-le-suc}
 use native.Mathlib.Omega.{arith}
-use mathlib.Core.Path.{_≡_, refl, sym, ap, subst, _∙_}
+use mathlib.Core.Path.{_≡_, refl, sym, ap, subst}
 use mathlib.Core.Logic.{_⊎_, inl, inr, ⊎-elim}
 use mathlib.Core.Bool.{Bool, true, false}
 use mathlib.Core.List.{List, [], _∷_, List·Memᴰ, List·Memᴰ·head, List·Memᴰ·tail, List·Memᴰ·not-nil, List·Memᴰ·cases-cons}
 use lib.ListN.{length, getD}
 use Rattle.common.specs.Bytes.{same}
-use Rattle.common.proofs.Cases.{bool-case, false-not-true}
-use Rattle.common.proofs.Lists.{same-true, same-refl}
+use Rattle.common.proofs.Same.{same-true, same-refl}
 use Rattle.tokenizer.specs.Word.{wordsOf}
 use Rattle.doclist.specs.Doclist.{Column, Rising, NotEmpty, Columns, positionLimit}
 use Rattle.document.specs.Document.{keepIf, positionsFrom, withColumn, columnsFrom}

@@ -1,7 +1,7 @@
 -- The leaf of a document with at least one word: it is accepted (`leaf-accepted`), it is the only accepted leaf whose
 -- entries are exactly the document's (`leaf-only`), and reading it gives them back: its content is the document's terms
 -- (`leaf-content`), and looking up each word gives the word's list (`word-found`), any other word nothing (`word-missing`).
-use Prim.Native.Nat.{ℕ, zero, suc, _+_, _≤_, _<_}
+use Prim.Native.Nat.{ℕ, _+_, _≤_, _<_}
 use native.Mathlib.Nat.{not-suc-le-zero}
 use native.Mathlib.Omega.{arith}
 use mathlib.Core.Path.{_≡_, refl, sym, ap, subst, _∙_}
@@ -10,19 +10,21 @@ use mathlib.Core.List.{List, [], _∷_, _++_, map, append-assoc, List·Memᴰ, L
 use lib.ListN.{length, drop, length-append}
 use lib.Seq.{drop-append-seam}
 use Rattle.common.specs.Bytes.{part}
+use Rattle.common.proofs.Members.{member-some}
+use Rattle.common.specs.Bounds.{maxWord}
 use Rattle.varint.specs.Varint.{encode}
 use Rattle.varint.proofs.Laws.{encode-pos}
 use Rattle.doclist.specs.Doclist.{encodeList}
-use Rattle.leaf.specs.Leaf.{Term, maxWord, shared, sized, termBytes, encodeTerms, encodeLeaf, LeafIs, ListIs, NoTerm}
+use Rattle.leaf.specs.Leaf.{Term, shared, sized, termBytes, encodeTerms, encodeLeaf, LeafIs, ListIs, NoTerm}
 use Rattle.leaf.specs.Answers.{CheckShape, checkLeaf}
 use Rattle.leaf.specs.declared.LeafCheck.the-variants.{Accepted}
 use Rattle.leaf.proofs.Checks.{accepted-exactly, checked}
 use Rattle.leaf.proofs.Once.{list-part}
+use Rattle.leaf.proofs.Laws.{same-terms}
 use Rattle.lookup.specs.Words.{LookupShape, WordIs}
 use Rattle.lookup.specs.declared.WordAnswer.the-variants.{Found, Nothing}
-use Rattle.lookup.proofs.WordLaws.{same-terms, word-claims}
-use Rattle.document.specs.Document.{StandsAt, allWords, distinct, documentTerm, documentTerms, leafOrNothing, documentLeaf, Writable, IsDocument}
-use Rattle.document.proofs.General.{member-some}
+use Rattle.lookup.proofs.WordLaws.{word-claims}
+use Rattle.document.specs.Document.{HasWordAt, allWords, distinct, documentTerm, documentTerms, leafOrNothing, documentLeaf, Writable, IsDocument}
 use Rattle.document.proofs.Distinct.{distinct-has, distinct-from}
 use Rattle.document.proofs.Terms.{stands-word, word-stands, word-some, document-is, document-well-formed}
 use Rattle.document.proofs.Only.{document-only}
@@ -30,7 +32,7 @@ use Rattle.document.proofs.Size.{leaf-terms, document-size}
 
 -- ---- where a term's list stands
 
--- a term splits the others into those before it and those behind it
+-- a term splits the others into those before it and those after it
 record Splits (ts : List Term) (t : Term) : Type 0 where
   before : List Term
   after : List Term
@@ -123,7 +125,7 @@ module _ (docid : ℕ) (texts : List (List ℕ)) (h : Writable docid texts) (som
   lookup-shape w l k = record { leaf-right = leaf-shape; word-right = record { some = l; short = k } }
 
   -- looking up a word of the document gives its list
-  pub word-found : (w : List ℕ) (c p : ℕ) → StandsAt texts w c p
+  pub word-found : (w : List ℕ) (c p : ℕ) → HasWordAt texts w c p
       → (start : ℕ) × (size : ℕ) × WordIs (length texts) (documentLeaf docid texts) w (Found start size)
       × (part (documentLeaf docid texts) start (start + size) ≡ encodeList (documentTerm docid texts w .entries))
   word-found w c p st =
@@ -137,7 +139,7 @@ module _ (docid : ℕ) (texts : List (List ℕ)) (h : Writable docid texts) (som
       )
 
   -- and any other word is not there
-  pub word-missing : (w : List ℕ) → 1 ≤ length w → length w ≤ maxWord → ((c p : ℕ) → StandsAt texts w c p → ⊥) → WordIs (length texts) (documentLeaf docid texts) w Nothing
+  pub word-missing : (w : List ℕ) → 1 ≤ length w → length w ≤ maxWord → ((c p : ℕ) → HasWordAt texts w c p → ⊥) → WordIs (length texts) (documentLeaf docid texts) w Nothing
   word-missing w l k n =
       word-claims (length texts) (documentLeaf docid texts) w Nothing .1
       (lookup-shape w l k, (documentTerms docid texts, leaf-is, none (distinct (allWords texts)) (λ m. let r = word-stands texts w (distinct-from (allWords texts) w m) in n (r .0) (r .1) (r .2))))
@@ -149,12 +151,12 @@ module _ (docid : ℕ) (texts : List (List ℕ)) (h : Writable docid texts) (som
 -- ---- a document without words
 
 -- a word in the document is a term of it
-pub some-term : (docid : ℕ) (texts : List (List ℕ)) (w : List ℕ) (c p : ℕ) → StandsAt texts w c p → 0 < length (documentTerms docid texts)
+pub some-term : (docid : ℕ) (texts : List (List ℕ)) (w : List ℕ) (c p : ℕ) → HasWordAt texts w c p → 0 < length (documentTerms docid texts)
 some-term docid texts w c p st =
     member-some (documentTerms docid texts) (documentTerm docid texts w) (Memᴰ·map (documentTerm docid texts) (distinct-has (allWords texts) w (stands-word texts w c p st)))
 
 -- 0 bytes are written exactly where there is no word
-pub no-word : (docid : ℕ) (texts : List (List ℕ)) → (length (documentLeaf docid texts) ≡ 0) ↔ ((w : List ℕ) (c p : ℕ) → StandsAt texts w c p → ⊥)
+pub no-word : (docid : ℕ) (texts : List (List ℕ)) → (length (documentLeaf docid texts) ≡ 0) ↔ ((w : List ℕ) (c p : ℕ) → HasWordAt texts w c p → ⊥)
 no-word docid texts = (
   λ e w c p st. absurd (omega (arith, pos (documentTerms docid texts) (some-term docid texts w c p st))),
   λ n. ap (λ ws. length (leafOrNothing (map (documentTerm docid texts) ws)))

@@ -1,29 +1,29 @@
 -- A document's leaf is no longer than a leaf may be. Each word that stands in the document is charged 19 bytes and its
 -- length; what the leaf stores of a word is no more than what its occurrences are charged.
 use Prim.Native.Nat.{ℕ, zero, suc, _+_, _-_, _*_, _/_, _≤_, _<_}
-use native.Mathlib.Nat.{not-suc-le-zero}
 use native.Mathlib.Omega.{arith}
 use mathlib.Core.Path.{_≡_, refl, sym, ap, subst, _∙_}
 use mathlib.Core.Logic.{⊎-elim}
 use mathlib.Core.Bool.{Bool, true, false}
-use mathlib.Core.List.{List, [], _∷_, _++_, map, flatten, append-assoc, List·Memᴰ, List·Memᴰ·head, List·Memᴰ·tail, List·Memᴰ·not-nil, List·Memᴰ·cases-cons}
+use mathlib.Core.List.{List, [], _∷_, _++_, map, append-assoc, List·Memᴰ, List·Memᴰ·head, List·Memᴰ·tail, List·Memᴰ·not-nil, List·Memᴰ·cases-cons}
 use lib.ListN.{length, getD, drop, length-append, length-drop}
 use Rattle.common.specs.Pick.{pick}
 use Rattle.common.specs.Bytes.{same}
 use Rattle.common.proofs.Cases.{split, bool-case, pick-case}
-use Rattle.common.proofs.Lists.{same-true, same-refl}
+use Rattle.common.proofs.Same.{same-true, same-refl}
+use Rattle.common.proofs.Members.{Each, Rise}
+use Rattle.common.proofs.Lists.{flatten-inside}
 use Rattle.varint.specs.Varint.{encodeIn, encode}
 use Rattle.varint.proofs.Laws.{encode-small, encode-big, encode-most}
-use Rattle.tokenizer.specs.Word.{wordsOf, maxWord}
-use Rattle.doclist.specs.Doclist.{Column, Entry, positionNumbers, announced, columnNumbers, encodeAll, encodeList}
-use Rattle.doclist.proofs.Numbers.{all-append}
-use Rattle.leaf.specs.Leaf.{Term, Before, shared, sized, termBytes, encodeTerms, encodeLeaf}
-use Rattle.lookup.proofs.Ordering.{shared-most}
+use Rattle.tokenizer.specs.Word.{wordsOf}
+use Rattle.doclist.specs.Doclist.{Column, positionNumbers, announced, columnNumbers, encodeAll, encodeList}
+use Rattle.doclist.proofs.Numbers.{all-length}
+use Rattle.leaf.specs.Leaf.{Term, Before, shared, sized, termBytes, encodeTerms}
+use Rattle.leaf.proofs.Orders.{before-not-same}
+use Rattle.leaf.proofs.Words.{shared-most}
 use Rattle.document.specs.Document.{allWords, distinct, keepIf, positionsFrom, withColumn, columnsFrom, documentTerm, documentTerms, leafOrNothing, documentLeaf, Writable}
-use Rattle.document.proofs.General.{Each, Rise, each-member}
-use Rattle.document.proofs.Order.{before-not-same}
 use Rattle.document.proofs.Distinct.{distinct-from, distinct-rises}
-use Rattle.document.proofs.Weight.{weight, weight-count, text-count, text-inside, document-weight}
+use Rattle.document.proofs.Weight.{weight, weight-count, text-count, document-weight}
 use Rattle.document.proofs.Terms.{word-some, word-stands}
 
 -- ---- numbers
@@ -48,9 +48,6 @@ encode-three v h =
         split u 128
         (λ l. omega (arith, ap length (encode-small 7 u l)))
         (λ l. omega (arith, ap length (encode-big 7 u l), ap length (encode-small 6 (u / 128) (omega arith))))
-
-pub all-length : (us vs : List ℕ) → length (encodeAll (us ++ vs)) ≡ length (encodeAll us) + length (encodeAll vs)
-all-length us vs = ap length (all-append us vs) ∙ length-append (encodeAll us) (encodeAll vs)
 
 -- ---- the posting list of a word
 
@@ -135,7 +132,7 @@ list-bytes docid w texts h f =
 sized-length : (s : List ℕ) → length (sized s) ≡ length (encode (length s)) + length s
 sized-length s = length-append (encode (length s)) s
 
--- what the leaf stores of a word, behind the word `before`
+-- what the leaf stores of a word, after the word `before`
 abbrev stored : List ℕ → Term → List ℕ
 stored before t = encode (shared before (t .word)) ++ termBytes (drop (shared before (t .word)) (t .word)) (t .entries)
 
@@ -163,23 +160,23 @@ charge [] = 0
 charge (v ∷ vs) = (19 + length v) + charge vs
 
 -- a word's part of it
-abbrev part : List ℕ → List (List ℕ) → ℕ
-part w [] = 0
-part w (v ∷ vs) = pick (same v w) (19 + length v) 0 + part w vs
+abbrev weightPart : List ℕ → List (List ℕ) → ℕ
+weightPart w [] = 0
+weightPart w (v ∷ vs) = pick (same v w) (19 + length v) 0 + weightPart w vs
 
 charge-weight : (vs : List (List ℕ)) → ((w : List ℕ) → List·Memᴰ w vs → 0 < length w) → charge vs ≤ 10 * weight vs
 charge-weight [] f = omega arith
 charge-weight (v ∷ vs) f = let h = charge-weight vs (λ w m. f w (List·Memᴰ·tail m)) in omega (arith, f v (List·Memᴰ·head refl))
 
-part-least : (w : List ℕ) (vs : List (List ℕ)) → 4 * count w vs ≤ part w vs
+part-least : (w : List ℕ) (vs : List (List ℕ)) → 4 * count w vs ≤ weightPart w vs
 part-least w [] = omega arith
 part-least w (v ∷ vs) = go (same v w) (part-least w vs)
   where
-    go : (b : Bool) → 4 * count w vs ≤ part w vs → 4 * (pick b 1 0 + count w vs) ≤ pick b (19 + length v) 0 + part w vs
+    go : (b : Bool) → 4 * count w vs ≤ weightPart w vs → 4 * (pick b 1 0 + count w vs) ≤ pick b (19 + length v) 0 + weightPart w vs
     go true h = omega arith
     go false h = omega arith
 
-part-covers : (w : List ℕ) (vs : List (List ℕ)) → List·Memᴰ w vs → 15 + length w + 4 * count w vs ≤ part w vs
+part-covers : (w : List ℕ) (vs : List (List ℕ)) → List·Memᴰ w vs → 15 + length w + 4 * count w vs ≤ weightPart w vs
 part-covers w [] m = absurd (List·Memᴰ·not-nil m)
 part-covers w (v ∷ vs) m =
     bool-case (same v w)
@@ -195,7 +192,7 @@ part-covers w (v ∷ vs) m =
 
 abbrev parts : List (List ℕ) → List (List ℕ) → ℕ
 parts [] vs = 0
-parts (w ∷ ws) vs = part w vs + parts ws vs
+parts (w ∷ ws) vs = weightPart w vs + parts ws vs
 
 -- one word has a part in what another is charged
 abbrev hits : ℕ → List ℕ → List (List ℕ) → ℕ
@@ -239,7 +236,7 @@ pub document-terms-leaf : (docid : ℕ) (texts : List (List ℕ)) → documentLe
 document-terms-leaf docid texts = leaf-terms (documentTerms docid texts)
 
 terms-bytes : (before : List ℕ) (docid : ℕ) (texts ws : List (List ℕ))
-    → ((v w : List ℕ) → List·Memᴰ w ws → length (stored v (documentTerm docid texts w)) ≤ part w (allWords texts))
+    → ((v w : List ℕ) → List·Memᴰ w ws → length (stored v (documentTerm docid texts w)) ≤ weightPart w (allWords texts))
     → length (encodeTerms before (map (documentTerm docid texts) ws)) ≤ parts ws (allWords texts)
 terms-bytes before docid texts [] f = omega arith
 terms-bytes before docid texts (w ∷ ws) f =
@@ -257,11 +254,11 @@ module _ (docid : ℕ) (texts : List (List ℕ)) (h : Writable docid texts) wher
   word-count : length (allWords texts) ≤ 4112
   word-count = omega (arith, weight-count (allWords texts), document-weight texts, h .size, h .few)
 
-  word-bytes : (before w : List ℕ) → List·Memᴰ w (distinct (allWords texts)) → length (stored before (documentTerm docid texts w)) ≤ part w (allWords texts)
+  word-bytes : (before w : List ℕ) → List·Memᴰ w (distinct (allWords texts)) → length (stored before (documentTerm docid texts w)) ≤ weightPart w (allWords texts)
   word-bytes before w m =
       let n = distinct-from (allWords texts) w m in
       let s = word-stands texts w n in
-      let l = list-bytes docid w texts (h .few) (λ j. omega (arith, text-count (getD texts j []), text-inside texts j, h .size)) in
+      let l = list-bytes docid w texts (h .few) (λ j. omega (arith, text-count (getD texts j []), flatten-inside texts j, h .size)) in
       omega (
         arith,
         part-covers w (allWords texts) n,

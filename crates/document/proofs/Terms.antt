@@ -1,34 +1,35 @@
 -- A document's terms are exactly its words with their columns and positions (`document-is`), and a leaf may say them
 -- (`document-well-formed`).
-use Prim.Native.Nat.{ℕ, zero, suc, _+_, _≤_, _<_}
+use Prim.Native.Nat.{ℕ, zero, suc, _+_, _<_}
 use native.Mathlib.Nat.{not-suc-le-zero, le-of-suc-le-suc}
 use native.Mathlib.Omega.{arith}
 use mathlib.Core.Path.{_≡_, refl, sym, ap, subst, _∙_}
-use mathlib.Core.Logic.{_⊎_, inl, inr, ⊎-elim, _↔_}
-use mathlib.Core.List.{List, [], _∷_, _++_, map, flatten, List·Memᴰ, List·Memᴰ·head, List·Memᴰ·tail, List·Memᴰ·not-nil, List·Memᴰ·cases-cons, List·Memᴰ·append-cases, List·Memᴰ·eq-of-singleton, Memᴰ·append-left, Memᴰ·append-right, Memᴰ·map, Memᴰ·of-map}
-use lib.ListN.{length, getD, length-append, length-map}
-use Rattle.tokenizer.specs.Word.{wordsOf, places, maxWord}
-use Rattle.tokenizer.proofs.General.{member-at}
-use Rattle.tokenizer.proofs.Folds.{Folded, words-fold}
-use Rattle.doclist.specs.Doclist.{Column, Entry, NotEmpty, docidLimit, positionLimit}
+use mathlib.Core.Logic.{⊎-elim}
+use mathlib.Core.List.{List, [], _∷_, map, List·Memᴰ, List·Memᴰ·head, List·Memᴰ·tail, List·Memᴰ·not-nil, List·Memᴰ·append-cases, List·Memᴰ·eq-of-singleton, Memᴰ·append-left, Memᴰ·append-right, Memᴰ·map, Memᴰ·of-map}
+use lib.ListN.{length, getD}
+use Rattle.common.proofs.Members.{member-at, member-some, at-member, Rise, Each, member-each}
+use Rattle.common.proofs.Lists.{flatten-inside}
+use Rattle.tokenizer.specs.Word.{wordsOf}
+use Rattle.tokenizer.proofs.Folds.{words-fold}
+use Rattle.doclist.specs.Doclist.{Entry, NotEmpty}
 use Rattle.doclist.specs.Doclist as doclist
 use Rattle.leaf.specs.Leaf.{Term, Before, GoodTerm, Terms, WellFormed}
-use Rattle.document.specs.Document.{StandsAt, allWords, distinct, positionsFrom, columnsFrom, documentTerm, documentTerms, Writable, Posted, IsDocument}
-use Rattle.document.proofs.General.{member-some, at-member, Rise, Each, each-member, member-each}
+use Rattle.leaf.proofs.Words.{before-some}
+use Rattle.document.specs.Document.{HasWordAt, allWords, distinct, positionsFrom, columnsFrom, documentTerm, documentTerms, Writable, Posted, IsDocument}
 use Rattle.document.proofs.Distinct.{distinct-has, distinct-from, distinct-rises}
-use Rattle.document.proofs.Weight.{text-count, text-inside}
-use Rattle.document.proofs.Places.{Number, IsColumn, position-from, position-has, column-from, column-has, columns-good}
+use Rattle.document.proofs.Weight.{text-count}
+use Rattle.document.proofs.Places.{position-from, position-has, column-from, column-has, columns-good}
 
 -- ---- the words of a document
 
-pub stands-word : (texts : List (List ℕ)) (w : List ℕ) (c p : ℕ) → StandsAt texts w c p → List·Memᴰ w (allWords texts)
+pub stands-word : (texts : List (List ℕ)) (w : List ℕ) (c p : ℕ) → HasWordAt texts w c p → List·Memᴰ w (allWords texts)
 stands-word [] w c p s = absurd (not-suc-le-zero (s .column))
 stands-word (t ∷ ts) w zero p s =
     Memᴰ·append-left (allWords ts) (subst (λ x. List·Memᴰ x (wordsOf t)) (s .word) (member-at (wordsOf t) [] p (s .position)))
 stands-word (t ∷ ts) w (suc c) p s =
     Memᴰ·append-right (wordsOf t) (stands-word ts w c p (record { column = le-of-suc-le-suc (s .column); position = s .position; word = s .word }))
 
-pub word-stands : (texts : List (List ℕ)) (w : List ℕ) → List·Memᴰ w (allWords texts) → (c : ℕ) × (p : ℕ) × StandsAt texts w c p
+pub word-stands : (texts : List (List ℕ)) (w : List ℕ) → List·Memᴰ w (allWords texts) → (c : ℕ) × (p : ℕ) × HasWordAt texts w c p
 word-stands [] w m = absurd (List·Memᴰ·not-nil m)
 word-stands (t ∷ ts) w m =
     ⊎-elim
@@ -61,13 +62,13 @@ module _ (docid : ℕ) (texts : List (List ℕ)) where
   pub term-entry : (w : List ℕ) (t : Term) (e : Entry) → documentTerm docid texts w ≡ t → List·Memᴰ e (t .entries) → e ≡ record { docid = docid; columns = columnsFrom 0 w texts }
   term-entry w t e q m = List·Memᴰ·eq-of-singleton (subst (λ (x : Term). List·Memᴰ e (x .entries)) (sym q) m)
 
-  positions-some : (w : List ℕ) (c p : ℕ) → StandsAt texts w c p → List·Memᴰ p (positionsFrom 0 w (wordsOf (getD texts c [])))
+  positions-some : (w : List ℕ) (c p : ℕ) → HasWordAt texts w c p → List·Memᴰ p (positionsFrom 0 w (wordsOf (getD texts c [])))
   positions-some w c p s =
       let z : 0 + p ≡ p = omega arith in
       subst (λ q. List·Memᴰ q (positionsFrom 0 w (wordsOf (getD texts c [])))) z
       (position-has 0 w (wordsOf (getD texts c [])) p (record { inside = s .position; is = s .word }))
 
-  pub stands-posted : (w : List ℕ) (c p : ℕ) → StandsAt texts w c p → Posted (documentTerms docid texts) w docid c p
+  pub stands-posted : (w : List ℕ) (c p : ℕ) → HasWordAt texts w c p → Posted (documentTerms docid texts) w docid c p
   stands-posted w c p s =
       let m = positions-some w c p s in
       let z : 0 + c ≡ c = omega arith in
@@ -84,7 +85,7 @@ module _ (docid : ℕ) (texts : List (List ℕ)) where
         position = m;
       }
 
-  pub posted-stands : (w : List ℕ) (d c p : ℕ) → Posted (documentTerms docid texts) w d c p → StandsAt texts w c p
+  pub posted-stands : (w : List ℕ) (d c p : ℕ) → Posted (documentTerms docid texts) w d c p → HasWordAt texts w c p
   posted-stands w d c p q =
       let u = term-word (q .term) (q .in-leaf) in
       let e = term-entry (u .0) (q .term) (q .entry) (u .2) (q .in-list) in
@@ -93,8 +94,8 @@ module _ (docid : ℕ) (texts : List (List ℕ)) where
       let n = position-from 0 p (u .0) (wordsOf (getD texts (k .j) [])) (subst (List·Memᴰ p) (k .positions) (q .position)) in
       let jc : k .j ≡ c = omega (arith, k .number, q .same-column) in
       let ip : n .0 ≡ p = omega (arith, n .1) in
-      subst (λ x. StandsAt texts w x p) jc
-      (subst (λ x. StandsAt texts w (k .j) x) ip
+      subst (λ x. HasWordAt texts w x p) jc
+      (subst (λ x. HasWordAt texts w (k .j) x) ip
       (record { column = k .inside; position = n .2 .inside; word = n .2 .is ∙ uw }))
 
   -- the terms are exactly the document's words, columns and positions, in its docid alone
@@ -134,7 +135,7 @@ module _ (docid : ℕ) (texts : List (List ℕ)) (h : Writable docid texts) wher
             omega arith,
             h .docid-range,
             columns-good 0 0 (length texts) w texts (omega arith) (omega arith)
-                (λ j k. omega (arith, text-count (getD texts j []), text-inside texts j, h .size)),
+                (λ j k. omega (arith, text-count (getD texts j []), flatten-inside texts j, h .size)),
             tt,
           );
         };
@@ -146,17 +147,12 @@ module _ (docid : ℕ) (texts : List (List ℕ)) (h : Writable docid texts) wher
   terms-good before (w ∷ ws) e r f =
       (e .0, term-good w (f w (List·Memᴰ·head refl)), terms-good w ws (r .0) (r .1) (λ u m. f u (List·Memᴰ·tail m)))
 
-  -- every word comes after the empty one
-  after-empty : (w : List ℕ) → 0 < length w → Before [] w
-  after-empty [] l = absurd (not-suc-le-zero l)
-  after-empty (b ∷ w) l = tt
-
   -- a document's terms keep the rules of a leaf
   pub document-well-formed : 0 < length (documentTerms docid texts) → WellFormed (length texts) (documentTerms docid texts)
   document-well-formed some = record {
     some = some;
     terms = terms-good [] (distinct (allWords texts))
-        (member-each (Before []) (distinct (allWords texts)) (λ w m. after-empty w (word-some texts w (distinct-from (allWords texts) w m))))
+        (member-each (Before []) (distinct (allWords texts)) (λ w m. before-some w (word-some texts w (distinct-from (allWords texts) w m))))
         (distinct-rises (allWords texts))
         (distinct-from (allWords texts));
   }

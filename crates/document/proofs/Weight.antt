@@ -1,12 +1,11 @@
 -- How much room a document's words take: in a text, each word and one byte more fit into the text and one byte more.
-use Prim.Native.Nat.{ℕ, zero, suc, _+_, _-_, _≤_, _<_}
-use native.Mathlib.Nat.{le-of-suc-le-suc}
+use Prim.Native.Nat.{ℕ, suc, _+_, _≤_, _<_}
 use native.Mathlib.Omega.{arith}
-use mathlib.Core.Path.{_≡_, refl}
+use mathlib.Core.Path.{_≡_}
 use mathlib.Core.List.{List, [], _∷_, _++_, map, flatten}
 use lib.ListN.{length, getD, length-append}
-use Rattle.tokenizer.specs.Word.{Place, IsRun, places, wordAt, wordsOf}
-use Rattle.tokenizer.proofs.General.{member-at}
+use Rattle.common.proofs.Members.{member-at}
+use Rattle.tokenizer.specs.Word.{Place, places, wordAt, wordsOf}
 use Rattle.tokenizer.proofs.Folds.{word-length}
 use Rattle.tokenizer.proofs.Runs.{place-is-run, places-rise}
 use Rattle.document.specs.Document.{allWords}
@@ -56,10 +55,3 @@ document-weight [] = omega arith
 document-weight (t ∷ ts) =
     let r = document-weight ts in
     omega (arith, weight-append (wordsOf t) (allWords ts), text-weight t, length-append t (flatten ts))
-
--- a column is no longer than all of them
-pub text-inside : (texts : List (List ℕ)) (j : ℕ) → length (getD texts j []) ≤ length (flatten texts)
-unfolding flatten
-text-inside [] j = omega arith
-text-inside (t ∷ ts) zero = omega (arith, length-append t (flatten ts))
-text-inside (t ∷ ts) (suc j) = omega (arith, text-inside ts j, length-append t (flatten ts))

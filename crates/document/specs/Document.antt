@@ -1,23 +1,23 @@
 -- The leaf for one document (document 01, "Words", last paragraph). A document is a docid and the texts of its columns.
 -- Its leaf has the document's words, rising, each once; a word's posting list has one entry, for the docid, with the
 -- columns that have the word and its positions there. A document without words gives 0 bytes, which is no leaf.
-use Prim.Native.Nat.{ℕ, zero, suc, _≤_, _<_}
+use Prim.Native.Nat.{ℕ, suc, _≤_, _<_}
 use mathlib.Core.Path.{_≡_}
 use mathlib.Core.Logic.{_↔_}
 use mathlib.Core.Bool.{Bool, true, false}
 use mathlib.Core.List.{List, [], _∷_, _++_, map, flatten, List·Memᴰ}
 use lib.ListN.{length, getD}
-use lib.Dec.{ltb, eqb}
-use Rattle.common.specs.Pick.{pick, both, either}
+use Rattle.common.specs.Pick.{pick}
 use Rattle.common.specs.Bytes.{same}
-use Rattle.tokenizer.specs.Word.{wordsOf, maxWord}
+use Rattle.common.specs.Bounds.{maxWord, maxColumns}
+use Rattle.tokenizer.specs.Word.{wordsOf}
 use Rattle.doclist.specs.Doclist.{Column, Entry, docidLimit}
-use Rattle.leaf.specs.Leaf.{Term, encodeLeaf}
+use Rattle.leaf.specs.Leaf.{Term, encodeLeaf, isBefore}
 
 -- ---- the words of a document
 
 -- word number `p` of column `c` is `w`
-pub record StandsAt (texts : List (List ℕ)) (w : List ℕ) (c p : ℕ) : Type 0 where
+pub record HasWordAt (texts : List (List ℕ)) (w : List ℕ) (c p : ℕ) : Type 0 where
   pub column : c < length texts
   pub position : p < length (wordsOf (getD texts c []))
   pub word : getD (wordsOf (getD texts c [])) p [] ≡ w
@@ -27,17 +27,10 @@ abbrev pub allWords : List (List ℕ) → List (List ℕ)
 allWords [] = []
 allWords (t ∷ ts) = wordsOf t ++ allWords ts
 
--- whether a word comes before another by byte comparison; a proper prefix comes first
-abbrev pub earlier : List ℕ → List ℕ → Bool
-earlier [] [] = false
-earlier [] (b ∷ w) = true
-earlier (a ∷ v) [] = false
-earlier (a ∷ v) (b ∷ w) = either (ltb a b) (both (eqb a b) (earlier v w))
-
 -- a word at its place among rising words, unless it is there already
 abbrev pub insertWord : List ℕ → List (List ℕ) → List (List ℕ)
 insertWord w [] = w ∷ []
-insertWord w (v ∷ vs) = pick (earlier w v) (w ∷ v ∷ vs) (pick (same w v) (v ∷ vs) (v ∷ insertWord w vs))
+insertWord w (v ∷ vs) = pick (isBefore w v) (w ∷ v ∷ vs) (pick (same w v) (v ∷ vs) (v ∷ insertWord w vs))
 
 -- the words, rising, each once
 abbrev pub distinct : List (List ℕ) → List (List ℕ)
@@ -83,9 +76,6 @@ documentLeaf docid texts = leafOrNothing (documentTerms docid texts)
 
 -- ---- which documents can be written
 
-abbrev pub maxColumns : ℕ
-maxColumns = 16
-
 -- all columns together
 abbrev pub maxDocument : ℕ
 maxDocument = 4096
@@ -96,7 +86,7 @@ pub record Writable (docid : ℕ) (texts : List (List ℕ)) : Type 0 where
   pub some : 1 ≤ length texts
   pub few : length texts ≤ maxColumns
   pub size : length (flatten texts) ≤ maxDocument
-  pub short : (w : List ℕ) (c p : ℕ) → StandsAt texts w c p → length w ≤ maxWord
+  pub short : (w : List ℕ) (c p : ℕ) → HasWordAt texts w c p → length w ≤ maxWord
 
 -- ---- what a leaf's content says
 
@@ -117,4 +107,4 @@ pub record Posted (ts : List Term) (w : List ℕ) (d c p : ℕ) : Type 0 where
 pub record IsDocument (docid : ℕ) (texts : List (List ℕ)) (ts : List Term) : Type 0 where
   pub docids : (t : Term) (e : Entry) → List·Memᴰ t ts → List·Memᴰ e (t .entries) → e .docid ≡ docid
   pub live : (t : Term) (e : Entry) → List·Memᴰ t ts → List·Memᴰ e (t .entries) → 0 < length (e .columns)
-  pub words : (w : List ℕ) (c p : ℕ) → Posted ts w docid c p ↔ StandsAt texts w c p
+  pub words : (w : List ℕ) (c p : ℕ) → Posted ts w docid c p ↔ HasWordAt texts w c p

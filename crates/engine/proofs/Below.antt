@@ -7,8 +7,8 @@ use mathlib.Core.List.{List, [], _∷_, _++_, List·Memᴰ, List·Memᴰ·head, 
 use lib.ListN.{length}
 use Rattle.common.proofs.Cases.{split}
 use Rattle.doclist.specs.Doclist.{Rising, docidLimit}
+use Rattle.doclist.proofs.Content.{rising-low}
 use Rattle.meaning.specs.Listing.{Lists}
-use Rattle.meaning.proofs.Lists.{rising-low}
 
 -- ---- rising lists
 

@@ -5,7 +5,7 @@ use mathlib.Core.Bool.{Bool}
 use mathlib.Core.List.{List}
 use Rattle.query.specs.declared.Query.{Query}
 use Rattle.query.specs.Tree.{Tree}
-use Rattle.evaluate.specs.Evaluate.{Compiled, Decides}
+use Rattle.evaluate.specs.Evaluate.{Compiled, DecidesQuery}
 use Rattle.engine.specs.Run.{IsCompiled}
 use Rattle.engine.specs.Rows.{RowDecided}
 
@@ -22,7 +22,7 @@ compiled-arrays query tree c =
     }
 
 pub decided-evaluated : (query : Query) {leaves starts matched : List ℕ} {count : ℕ} {marks spare : List ℕ} {r : Bool}
-    → Decides (query .words .ties) (query .words .distances) (query .words .columns) (query .words .count) (query .ops .codes) (query .ops .len) leaves starts matched count marks spare r
+    → DecidesQuery (query .words .ties) (query .words .distances) (query .words .columns) (query .words .count) (query .ops .codes) (query .ops .len) leaves starts matched count marks spare r
     → RowDecided query leaves starts matched count marks spare r
 decided-evaluated query decides tree live docid hits compiled given agrees room =
     decides tree hits live docid (compiled .fit) (compiled-arrays query tree compiled) given agrees room

@@ -12,15 +12,15 @@ use Rattle.doclist.specs.Doclist.{Rising, docidLimit}
 use Rattle.query.specs.declared.Query.{Query}
 use Rattle.query.specs.Tree.{Tree, treeNodes}
 use Rattle.meaning.specs.Satisfies.{Live, Satisfies}
-use Rattle.meaning.specs.Listing.{Lists, shown, zeros}
+use Rattle.meaning.specs.Listing.{Lists, signedDocid, zeros}
 use Rattle.chain.specs.Chains.{markWords}
 use Rattle.cursors.specs.Groups.{Group, NextIs}
 use Rattle.cursors.specs.Arrays.{blockSize, CursorsAre, MinimaAre}
 use Rattle.cursors.specs.declared.Next.{Next}
 use Rattle.cursors.specs.declared.Next.the-variants.{Docid, End}
 use Rattle.engine.specs.Run.{IsCompiled, fitted}
-use Rattle.engine.specs.Rows.{maxCursors, maxBlocks, RowTells, Ready, RowJudged, RowsListed}
-use Rattle.engine.specs.declared.Judged.{Judged}
+use Rattle.engine.specs.Rows.{maxCursors, maxBlocks, RowAgrees, Ready, RowEvaluated, RowsListed}
+use Rattle.engine.specs.declared.Evaluated.{Evaluated}
 use Rattle.engine.proofs.Rooms.{fitted-none, fitted-more}
 use Rattle.engine.proofs.Below.{rising-more, rising-wider, rising-length}
 use Rattle.engine.proofs.Progress.{Progress, progress-start, progress-end, next-later, next-limit, next-from, next-tells, progress-yes, progress-no}
@@ -42,7 +42,7 @@ pub record Going (query : Query) (leaves docids₀ bodies₀ lasts masks follows
   pub marks-size : length marks ≡ markWords
   pub spare-size : length spare ≡ markWords
   pub progress : (tree : Tree) (live : Live) (groups : List Group) → IsCompiled query tree → CursorsAre leaves docids₀ bodies₀ lasts masks follows n groups → n ≤ maxCursors
-      → ((d : ℕ) → RowTells (treeNodes tree) live groups d) → Progress leaves docids bodies lasts masks follows n mins tree live groups next from listed
+      → ((d : ℕ) → RowAgrees (treeNodes tree) live groups d) → Progress leaves docids bodies lasts masks follows n mins tree live groups next from listed
 
 -- what the least docid promises
 abbrev pub Least : List ℕ → ℕ → Next → Type 0
@@ -84,7 +84,7 @@ module _ {query : Query} {leaves docids₀ bodies₀ lasts masks follows : List 
     rising = rising-wider 0 from docidLimit (g .listed) (g .limit) (g .rising)
 
     ends : ((tree : Tree) (live : Live) (groups : List Group) → IsCompiled query tree → CursorsAre leaves docids₀ bodies₀ lasts masks follows n groups → n ≤ maxCursors
-        → ((d : ℕ) → RowTells (treeNodes tree) live groups d) → Lists (λ d. Satisfies live d tree) (g .listed))
+        → ((d : ℕ) → RowAgrees (treeNodes tree) live groups d) → Lists (λ d. Satisfies live d tree) (g .listed))
         → RowsListed query leaves docids₀ bodies₀ lasts masks follows n size count room
     ends exact = record { listed = g .listed; rising = rising; counted = g .counted; left = g .left; exact = exact }
 
@@ -101,7 +101,7 @@ module _ {query : Query} {leaves docids₀ bodies₀ lasts masks follows : List 
       going-past b = ends (λ tree live groups q k h tells. let l = next-limit (q .fit .filled) tells (g .progress tree live groups q k h tells) d e in absurd (omega arith))
 
       ready : (tree : Tree) (live : Live) (groups : List Group) (q : IsCompiled query tree) (k : CursorsAre leaves docids₀ bodies₀ lasts masks follows n groups) (h : n ≤ maxCursors)
-          (tells : (d : ℕ) → RowTells (treeNodes tree) live groups d)
+          (tells : (d : ℕ) → RowAgrees (treeNodes tree) live groups d)
           → Ready query leaves docids bodies lasts masks follows n mins d starts matched marks spare tree live (g .progress tree live groups q k h tells .groups)
       ready tree live groups q k h tells =
           let p = g .progress tree live groups q k h tells in
@@ -118,12 +118,12 @@ module _ {query : Query} {leaves docids₀ bodies₀ lasts masks follows : List 
           }
 
       -- one turn
-      module _ (h : from ≤ d) (l : d < docidLimit) {docids₁ bodies₁ mins₁ starts₁ matched₁ marks₁ spare₁ : List ℕ} (row : Judged)
+      module _ (h : from ≤ d) (l : d < docidLimit) {docids₁ bodies₁ mins₁ starts₁ matched₁ marks₁ spare₁ : List ℕ} (row : Evaluated)
           (judges : (tree : Tree) (live : Live) (groups : List Group) → Ready query leaves docids bodies lasts masks follows n mins d starts matched marks spare tree live groups
-          → RowJudged leaves docids₁ bodies₁ lasts masks follows n mins₁ d tree live groups row)
+          → RowEvaluated leaves docids₁ bodies₁ lasts masks follows n mins₁ d tree live groups row)
           (da : length docids₁ ≡ length docids) (db : length bodies₁ ≡ length bodies) (dm : length mins₁ ≡ length mins) (dc : length starts₁ ≡ length starts) (dd : length matched₁ ≡ length matched) (de : length marks₁ ≡ length marks)
           (df : length spare₁ ≡ length spare) where
-        going-yes : {room₁ : List ℤ} {count₁ : ℕ} → row .holds ≡ true → count₁ ≡ count + 1 → room₁ ≡ set room count (shown d)
+        going-yes : {room₁ : List ℤ} {count₁ : ℕ} → row .holds ≡ true → count₁ ≡ count + 1 → room₁ ≡ set room count (signedDocid d)
             → Going query leaves docids₀ bodies₀ lasts masks follows n size docids₁ bodies₁ mins₁ starts₁ matched₁ marks₁ spare₁ room₁ (row .next) (d + 1) count₁
         going-yes y c m =
             record {
@@ -131,8 +131,8 @@ module _ {query : Query} {leaves docids₀ bodies₀ lasts masks follows : List 
               rising = let s : d + 1 ≡ suc d = omega arith in rw s (rising-more 0 from d (g .listed) (omega arith) h (g .rising));
               limit = omega arith;
               counted = omega (arith, g .counted, length-append (g .listed) (d ∷ []));
-              left = m ∙ ap₂ (λ (l : List ℤ) (k : ℕ). set l k (shown d)) (g .left) (g .counted) ∙ fitted-more size (g .listed) d;
-              room-size = ap length m ∙ length-set room count (shown d) ∙ g .room-size;
+              left = m ∙ ap₂ (λ (l : List ℤ) (k : ℕ). set l k (signedDocid d)) (g .left) (g .counted) ∙ fitted-more size (g .listed) d;
+              room-size = ap length m ∙ length-set room count (signedDocid d) ∙ g .room-size;
               docids-size = da ∙ g .docids-size;
               bodies-size = db ∙ g .bodies-size;
               mins-size = dm ∙ g .mins-size;
@@ -165,9 +165,9 @@ module _ {query : Query} {leaves docids₀ bodies₀ lasts masks follows : List 
                   progress-no (q .fit .filled) tells (g .progress tree live groups q k f tells) d e (judges tree live _ (ready tree live groups q k f tells)) y;
             }
 
-        pub going-on : {room₁ : List ℤ} {count₁ : ℕ} → (count₁ ≡ pick (row .holds) (count + 1) count) × (room₁ ≡ pick (row .holds) (set room count (shown d)) room)
+        pub going-on : {room₁ : List ℤ} {count₁ : ℕ} → (count₁ ≡ pick (row .holds) (count + 1) count) × (room₁ ≡ pick (row .holds) (set room count (signedDocid d)) room)
             → Going query leaves docids₀ bodies₀ lasts masks follows n size docids₁ bodies₁ mins₁ starts₁ matched₁ marks₁ spare₁ room₁ (row .next) (d + 1) count₁
         going-on noted =
             bool-case (row .holds)
-            (λ y. going-yes y (noted .0 ∙ ap (λ b. pick b (count + 1) count) y) (noted .1 ∙ ap (λ b. pick b (set room count (shown d)) room) y))
-            (λ y. going-no y (noted .0 ∙ ap (λ b. pick b (count + 1) count) y) (noted .1 ∙ ap (λ b. pick b (set room count (shown d)) room) y))
+            (λ y. going-yes y (noted .0 ∙ ap (λ b. pick b (count + 1) count) y) (noted .1 ∙ ap (λ b. pick b (set room count (signedDocid d)) room) y))
+            (λ y. going-no y (noted .0 ∙ ap (λ b. pick b (count + 1) count) y) (noted .1 ∙ ap (λ b. pick b (set room count (signedDocid d)) room) y))

@@ -1,18 +1,14 @@
 -- A row that lacks a word which the query needs does not satisfy it.
-use Prim.Native.Nat.{ℕ, suc, _+_, _*_, _/_, _%_, _^_, min}
-use native.Mathlib.Nat.{div-add-mod'}
+use Prim.Native.Nat.{ℕ}
 use native.Mathlib.Omega.{arith}
-use mathlib.Core.Path.{_≡_, sym, ap, ap₂, _∙_}
-use mathlib.Core.Bool.{true, false}
+use mathlib.Core.Path.{_≡_, sym, ap, _∙_}
+use mathlib.Core.Bool.{false}
 use mathlib.Core.List.{List, [], _∷_, List·Memᴰ·eq-of-singleton}
 use lib.ListN.{length, getD}
-use lib.Arith.{bin-ind}
-use lib.Bits.{bitAnd, and-step, and-zero-r}
-use lib.Dec.{eqb}
-use lib.Pow.{shr-shr}
-use borrow.Author.Tests.{eq-eqb, eqb-true}
-use Rattle.common.proofs.Cases.{false-not-true, same-or}
-use Rattle.lexer.specs.Token.{allows}
+use lib.Bits.{bitAnd}
+use Rattle.common.proofs.Cases.{false-not-true}
+use Rattle.common.proofs.Bits.{all-common}
+use Rattle.common.specs.Bits.{contains}
 use Rattle.query.specs.declared.Query.{Query}
 use Rattle.query.specs.Tree.{Tree, treeNodes}
 use Rattle.meaning.specs.Satisfies.{Live, StandsAt, Satisfies}
@@ -24,30 +20,6 @@ use Rattle.engine.specs.Rows.{Lacking, RowDecided}
 
 -- ---- sets
 
-higher : (n i : ℕ) → n / 2 / 2 ^ i ≡ n / 2 ^ suc i
-higher n i = let e : 1 + i ≡ suc i = omega arith in shr-shr n 1 i ∙ ap (λ (k : ℕ). n / 2 ^ k) e
-
-lowest : (a n : ℕ) → (allows n 0 ≡ true → allows a 0 ≡ true) → min (a % 2) (n % 2) ≡ n % 2
-lowest a n h =
-    same-or (n % 2) 1
-    (λ e.
-    let z : n / 1 % 2 ≡ 1 = omega arith in
-    let k = eqb-true (a / 1 % 2) 1 (h (eq-eqb (n / 1 % 2) 1 z)) in
-    omega arith)
-    (λ e. omega arith)
-
--- a set whose members are all in another has them in common with it
-common : (n a : ℕ) → ((i : ℕ) → allows n i ≡ true → allows a i ≡ true) → bitAnd a n ≡ n
-common =
-    bin-ind (λ (n : ℕ). (a : ℕ) → ((i : ℕ) → allows n i ≡ true → allows a i ≡ true) → bitAnd a n ≡ n)
-    (λ a h. and-zero-r a)
-    (λ n ih a h.
-    and-step a n
-    ∙ ap₂ (λ (x y : ℕ). x * 2 + y)
-    (ih (a / 2) (λ i e. ap (λ (x : ℕ). eqb (x % 2) 1) (higher a i) ∙ h (suc i) (ap (λ (x : ℕ). eqb (x % 2) 1) (sym (higher n i)) ∙ e)))
-    (lowest a n (h 0))
-    ∙ div-add-mod' n 2)
-
 -- ---- rows
 
 module _ {query : Query} {needed : ℕ} (needs : Needed (query .ops .codes) (query .ops .len) (query .words .count) needed) where
@@ -55,11 +27,11 @@ module _ {query : Query} {needed : ℕ} (needs : Needed (query .ops .codes) (que
       → Satisfies live d tree → ⊥
   lacking-not tree live d compiled agrees lacking h =
       lacking .lacks
-      (common needed (lacking .mask)
+      (all-common needed (lacking .mask)
       (λ i e.
       let s = needs tree live d coded h i e in
       let t = agrees i (s .inside) (s .column) (s .position) .1 (s .here) in
-      ap (λ (m : ℕ). allows m i) (sym (lacking .all (t .0) (t .1))) ∙ t .2))
+      ap (λ (m : ℕ). contains m i) (sym (lacking .all (t .0) (t .1))) ∙ t .2))
     where
       coded : Coded tree (query .ops .codes) (query .ops .len) (query .words .count)
       coded =

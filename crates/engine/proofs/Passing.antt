@@ -1,4 +1,4 @@
--- Going on behind a row: the cursors stay, or the only one that stands before the others passes over rows that lack a word.
+-- Going on after a row: the cursors stay, or the only one that stands before the others passes over rows that lack a word.
 use Prim.Native.Nat.{ℕ, _≤_, _<_}
 use native.Mathlib.Omega.{arith}
 use mathlib.Core.Path.{_≡_, refl}
@@ -9,7 +9,7 @@ use Rattle.cursors.specs.Groups.{Group, NextIs}
 use Rattle.cursors.specs.Arrays.{finished, CursorsAre, MinimaAre, Passed}
 use Rattle.cursors.specs.declared.Next.{Next}
 use Rattle.cursors.specs.declared.Taken.{Taken}
-use Rattle.engine.specs.Rows.{Lone, WentOn}
+use Rattle.engine.specs.Rows.{OneCursor, WentOn}
 use Rattle.engine.proofs.Reaching.{next-from}
 
 -- what `cursors::pass` promises
@@ -24,7 +24,7 @@ Passes i rest leaves docids bodies lasts n mins docids₁ bodies₁ mins₁ r =
     → Passed leaves docids₁ bodies₁ lasts masks follows n mins₁ i rest groups r
 
 module _ {leaves docids bodies lasts masks : List ℕ} {n : ℕ} {mins : List ℕ} {needed : ℕ} where
-  pub stays : (row : Taken) (follows : List ℕ) (groups : List Group) → CursorsAre leaves docids bodies lasts masks follows n groups → MinimaAre docids n mins → NextIs groups (row .next) → Lone docids n row
+  pub stays : (row : Taken) (follows : List ℕ) (groups : List Group) → CursorsAre leaves docids bodies lasts masks follows n groups → MinimaAre docids n mins → NextIs groups (row .next) → OneCursor docids n row
       → WentOn leaves docids bodies lasts masks follows n mins needed groups (row .next)
   stays row follows groups c m e l =
       record {
@@ -40,7 +40,7 @@ module _ {leaves docids bodies lasts masks : List ℕ} {n : ℕ} {mins : List �
 
   pub passes : (row : Taken) {docids₁ bodies₁ mins₁ : List ℕ} {next : Next} → row .taken ≡ 1 → row .rest ≤ finished → (bitAnd (getD masks (row .last) 0) needed ≡ needed → ⊥)
       → Passes (row .last) (row .rest) leaves docids bodies lasts n mins docids₁ bodies₁ mins₁ next
-      → (follows : List ℕ) (groups : List Group) → CursorsAre leaves docids bodies lasts masks follows n groups → MinimaAre docids n mins → NextIs groups (row .next) → Lone docids n row
+      → (follows : List ℕ) (groups : List Group) → CursorsAre leaves docids bodies lasts masks follows n groups → MinimaAre docids n mins → NextIs groups (row .next) → OneCursor docids n row
       → WentOn leaves docids₁ bodies₁ lasts masks follows n mins₁ needed groups next
   passes row {next = next} one small lacks pass follows groups c m e lone =
       let l = lone one in

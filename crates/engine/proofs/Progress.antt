@@ -13,18 +13,18 @@ use Rattle.lexer.specs.Token.{QueryWord, Tie, begins, continues, Node, phraseNo
 use Rattle.query.specs.Tree.{Tree, leaf, joined, linkNodes, treeNodes}
 use Rattle.meaning.specs.Satisfies.{Live, StandsAt, Satisfies}
 use Rattle.meaning.specs.Listing.{Lists}
-use Rattle.meaning.proofs.Some.{Worded, WordedTree, firstWords, holds-some}
+use Rattle.meaning.proofs.Some.{WordedTree, firstPhrase, holds-some, first-worded}
 use Rattle.row.specs.Row.{bodiesSize}
-use Rattle.chain.specs.Chains.{wordAt, Agrees, maxCandidates}
-use Rattle.cursors.specs.Groups.{Group, hitsAt, From, Begins, NextIs}
+use Rattle.chain.specs.Chains.{nodeWord, Agrees, maxCandidates}
+use Rattle.cursors.specs.Groups.{Group, hitsAt, From, GroupsBegin, NextIs}
 use Rattle.cursors.specs.Arrays.{CursorsAre, MinimaAre}
 use Rattle.cursors.specs.declared.Next.{Next}
 use Rattle.cursors.specs.declared.Next.the-variants.{Docid, End}
 use Rattle.cursors.proofs.Each.{ordered}
 use Rattle.cursors.proofs.Moving.{hits-none, hits-end}
 use Rattle.evaluate.specs.Evaluate.{FilledTree}
-use Rattle.engine.specs.Rows.{RowTells, RowJudged}
-use Rattle.engine.specs.declared.Judged.{Judged}
+use Rattle.engine.specs.Rows.{RowAgrees, RowEvaluated}
+use Rattle.engine.specs.declared.Evaluated.{Evaluated}
 use Rattle.engine.proofs.Below.{ListsBelow, lists-none, lists-skip, lists-more, lists-all}
 
 -- ---- the first words of a tree's chains are among its words
@@ -33,7 +33,7 @@ use Rattle.engine.proofs.Below.{ListsBelow, lists-none, lists-skip, lis
 pub record Among (w : QueryWord) (nodes : List Node) : Type 0 where
   pub number : ℕ
   pub inside : number < length nodes
-  pub same : wordAt nodes number ≡ w
+  pub same : nodeWord nodes number ≡ w
 
 among-next : (w : QueryWord) (n : Node) (nodes : List Node) → Among w nodes → Among w (n ∷ nodes)
 among-next w n nodes a = record { number = suc (a .number); inside = let h = a .inside in omega arith; same = a .same }
@@ -42,7 +42,7 @@ among-left : (w : QueryWord) (ms nodes : List Node) → Among w ms → Among w (
 among-left w [] nodes a = absurd (let h = a .inside in omega arith)
 among-left w (m ∷ ms) nodes a = from (a .number) (a .inside) (a .same) (among-left w ms nodes)
   where
-    from : (i : ℕ) → i < suc (length ms) → wordAt (m ∷ ms) i ≡ w → (Among w ms → Among w (ms ++ nodes)) → Among w (m ∷ (ms ++ nodes))
+    from : (i : ℕ) → i < suc (length ms) → nodeWord (m ∷ ms) i ≡ w → (Among w ms → Among w (ms ++ nodes)) → Among w (m ∷ (ms ++ nodes))
     from zero h e f = record { number = 0; inside = omega arith; same = e }
     from (suc i) h e f = among-next w m (ms ++ nodes) (f (record { number = i; inside = omega arith; same = e }))
 
@@ -58,18 +58,14 @@ among-phrase w t columns (v ∷ ws) m =
     (λ n. among-next w (record { tie = t; word = v; columns = columns }) (phraseNodes continues columns ws) (among-phrase w continues columns ws n))
     (List·Memᴰ·cases-cons m)
 
-first-among : (w : QueryWord) (t : Tree) → List·Memᴰ w (firstWords t) → Among w (treeNodes t)
+first-among : (w : QueryWord) (t : Tree) → List·Memᴰ w (firstPhrase t) → Among w (treeNodes t)
 first-among w (leaf c) m =
     among-left w (phraseNodes begins (c .first .columns) (c .first .words)) (linkNodes (c .links)) (among-phrase w begins (c .first .columns) (c .first .words) m)
 first-among w (joined o a b) m =
     ⊎-elim
     (λ n. among-left w (treeNodes a) (treeNodes b) (first-among w a n))
     (λ n. among-right w (treeNodes a) (treeNodes b) (first-among w b n))
-    (List·Memᴰ·append-cases (firstWords a) m)
-
-first-worded : (ws : List QueryWord) → 0 < length ws → Worded ws
-first-worded [] h = absurd (omega arith)
-first-worded (w ∷ ws) h = tt
+    (List·Memᴰ·append-cases (firstPhrase a) m)
 
 tree-worded : (t : Tree) → FilledTree t → WordedTree t
 tree-worded (leaf c) h = first-worded (c .first .words) (h .0)
@@ -77,7 +73,7 @@ tree-worded (joined o a b) h = (tree-worded a (h .0), tree-worded b (h .1))
 
 -- ---- a row without hits satisfies nothing
 
-pub no-row : (t : Tree) (live : Live) (groups : List Group) (d : ℕ) → FilledTree t → RowTells (treeNodes t) live groups d → hitsAt d groups ≡ [] → Satisfies live d t → ⊥
+pub no-row : (t : Tree) (live : Live) (groups : List Group) (d : ℕ) → FilledTree t → RowAgrees (treeNodes t) live groups d → hitsAt d groups ≡ [] → Satisfies live d t → ⊥
 no-row t live groups d w tells none h =
     let s = holds-some (StandsAt live d) t (tree-worded t w) h in
     let a = first-among (s .0) t (s .1) in
@@ -89,7 +85,7 @@ no-row t live groups d w tells none h =
 
 -- ---- on the way
 
--- the docids below `from` are listed, and the cursors stand behind it; from `since` on the rows are those at the start, and
+-- the docids below `from` are listed, and the cursors stand after it; from `since` on the rows are those at the start, and
 -- none between the two satisfies the query
 pub record Progress (leaves docids bodies lasts masks follows : List ℕ) (n : ℕ) (mins : List ℕ) (tree : Tree) (live : Live) (start : List Group) (next : Next) (from : ℕ) (listed : List ℕ) : Type 0 where
   pub groups : List Group
@@ -118,7 +114,7 @@ module _ {leaves lasts masks follows : List ℕ} {n : ℕ} {tree : Tree} {live :
         lists = lists-none (λ d. Satisfies live d tree);
       }
 
-  module _ (worded : FilledTree tree) (tells : (d : ℕ) → RowTells (treeNodes tree) live start d) {docids bodies mins : List ℕ} {next : Next} {from : ℕ} {listed : List ℕ}
+  module _ (worded : FilledTree tree) (tells : (d : ℕ) → RowAgrees (treeNodes tree) live start d) {docids bodies mins : List ℕ} {next : Next} {from : ℕ} {listed : List ℕ}
       (p : Progress leaves docids bodies lasts masks follows n mins tree live start next from listed) where
     -- where no row is left, all docids are listed
     pub progress-end : next ≡ End → Rising 0 docidLimit listed → Lists (λ d. Satisfies live d tree) listed
@@ -132,7 +128,7 @@ module _ {leaves lasts masks follows : List ℕ} {n : ℕ} {tree : Tree} {live :
 
     -- the row at the next docid
     module _ (d : ℕ) (e : next ≡ Docid d) where
-      next-here : From d (p .groups) × Begins d (p .groups) × (d < docidLimit)
+      next-here : From d (p .groups) × GroupsBegin d (p .groups) × (d < docidLimit)
       next-here = subst (NextIs (p .groups)) e (p .next-is)
 
       pub next-later : from ≤ d
@@ -144,7 +140,7 @@ module _ {leaves lasts masks follows : List ℕ} {n : ℕ} {tree : Tree} {live :
       pub next-from : From d (p .groups)
       next-from = next-here .0
 
-      pub next-tells : (k : ℕ) → d ≤ k → RowTells (treeNodes tree) live (p .groups) k
+      pub next-tells : (k : ℕ) → d ≤ k → RowAgrees (treeNodes tree) live (p .groups) k
       next-tells k h =
           let s = sym (p .same k (omega (arith, p .reached d e))) in
           record {
@@ -160,7 +156,7 @@ module _ {leaves lasts masks follows : List ℕ} {n : ℕ} {tree : Tree} {live :
           (p .lists)
 
       -- the cursors went on
-      module _ {docids₁ bodies₁ mins₁ : List ℕ} {row : Judged} (j : RowJudged leaves docids₁ bodies₁ lasts masks follows n mins₁ d tree live (p .groups) row) where
+      module _ {docids₁ bodies₁ mins₁ : List ℕ} {row : Evaluated} (j : RowEvaluated leaves docids₁ bodies₁ lasts masks follows n mins₁ d tree live (p .groups) row) where
         goes-on : (more : List ℕ) → ListsBelow (λ k. Satisfies live k tree) (d + 1) more → Progress leaves docids₁ bodies₁ lasts masks follows n mins₁ tree live start (row .next) (d + 1) more
         goes-on more l =
             record {
@@ -176,7 +172,7 @@ module _ {leaves lasts masks follows : List ℕ} {n : ℕ} {tree : Tree} {live :
             }
 
         pub progress-yes : row .holds ≡ true → Progress leaves docids₁ bodies₁ lasts masks follows n mins₁ tree live start (row .next) (d + 1) (listed ++ d ∷ [])
-        progress-yes h = goes-on (listed ++ d ∷ []) (lists-more (λ k. Satisfies live k tree) d listed (j .judged .0 h) nothing-between)
+        progress-yes h = goes-on (listed ++ d ∷ []) (lists-more (λ k. Satisfies live k tree) d listed (j .exact .0 h) nothing-between)
 
         pub progress-no : row .holds ≡ false → Progress leaves docids₁ bodies₁ lasts masks follows n mins₁ tree live start (row .next) (d + 1) listed
         progress-no h =
@@ -184,5 +180,5 @@ module _ {leaves lasts masks follows : List ℕ} {n : ℕ} {tree : Tree} {live :
             (lists-skip (λ k. Satisfies live k tree) d (d + 1) listed (omega arith)
             (λ k l m s.
             let e : k ≡ d = omega arith in
-            false-not-true (sym h ∙ j .judged .1 (subst (λ k. Satisfies live k tree) e s)))
+            false-not-true (sym h ∙ j .exact .1 (subst (λ k. Satisfies live k tree) e s)))
             nothing-between)

@@ -6,9 +6,9 @@ use mathlib.Core.Logic.{⊎-elim}
 use mathlib.Core.List.{List, [], _∷_, _++_, List·Memᴰ, List·Memᴰ·not-nil, List·Memᴰ·cases-cons}
 use borrow.Author.Tests.{eq-eqb}
 use Rattle.doclist.specs.Doclist.{Entry}
-use Rattle.meaning.specs.Index.{Decided, nothing, entry, entryFor, orElse}
+use Rattle.meaning.specs.Index.{MaybeEntry, nothing, entry, entryFor, orElse}
 use Rattle.row.specs.Row.{Hit}
-use Rattle.cursors.specs.Groups.{Group, firstFor, hitOf, hitsAt, EveryList, Every, BeginsFrom, From, Begins, NextIs}
+use Rattle.cursors.specs.Groups.{Group, firstFor, hitOf, hitsAt, EveryList, EveryGroup, BeginsFrom, From, GroupsBegin, NextIs}
 use Rattle.cursors.specs.declared.Next.{Next}
 use Rattle.cursors.specs.declared.Next.the-variants.{Docid}
 
@@ -18,12 +18,12 @@ list-member : (P : List Entry → Type 0) (ls : List (List Entry)) (l : List Ent
 list-member P [] l h m = absurd (List·Memᴰ·not-nil m)
 list-member P (k ∷ ls) l h m = ⊎-elim (λ e. subst P (sym e) (h .0)) (λ n. list-member P ls l (h .1) n) (List·Memᴰ·cases-cons m)
 
-group-member : (P : List Entry → Type 0) (gs : List Group) (g : Group) → Every P gs → List·Memᴰ g gs → EveryList P (g .lists)
+group-member : (P : List Entry → Type 0) (gs : List Group) (g : Group) → EveryGroup P gs → List·Memᴰ g gs → EveryList P (g .lists)
 group-member P [] g h m = absurd (List·Memᴰ·not-nil m)
 group-member P (k ∷ gs) g h m =
     ⊎-elim (λ e. subst (λ x. EveryList P (x .lists)) (sym e) (h .0)) (λ n. group-member P gs g (h .1) n) (List·Memᴰ·cases-cons m)
 
-begins-from : (from d : ℕ) (gs : List Group) → From from gs → Begins d gs → from ≤ d
+begins-from : (from d : ℕ) (gs : List Group) → From from gs → GroupsBegin d gs → from ≤ d
 begins-from from d gs f b =
     let h = list-member (BeginsFrom from) (b .group .lists) (b .first ∷ b .others) (group-member (BeginsFrom from) gs (b .group) f (b .in-groups)) (b .in-lists) in
     let e = b .same in
@@ -34,7 +34,7 @@ next-from from gs next f n d e = begins-from from d gs f (subst (NextIs gs) e n 
 
 -- ---- it has a row
 
-or-second : (a b : Decided) → orElse a b ≡ nothing → b ≡ nothing
+or-second : (a b : MaybeEntry) → orElse a b ≡ nothing → b ≡ nothing
 or-second (entry e) b q = let z : _≡_ {A = ℕ} 0 1 = cc in absurd (omega arith)
 or-second nothing b q = q
 
@@ -49,14 +49,14 @@ first-some d (l ∷ ls) e es m q n =
     here : entry e ≡ nothing → ⊥
     here r = let z : _≡_ {A = ℕ} 0 1 = cc in omega arith
 
-pub begins-hits : (d : ℕ) (gs : List Group) → Begins d gs → hitsAt d gs ≡ [] → ⊥
+pub begins-hits : (d : ℕ) (gs : List Group) → GroupsBegin d gs → hitsAt d gs ≡ [] → ⊥
 begins-hits d gs b = go gs (b .in-groups)
   where
-    some : (mask : ℕ) (x : Decided) (hits : List Hit) → (x ≡ nothing → ⊥) → hitOf mask x ++ hits ≡ [] → ⊥
+    some : (mask : ℕ) (x : MaybeEntry) (hits : List Hit) → (x ≡ nothing → ⊥) → hitOf mask x ++ hits ≡ [] → ⊥
     some mask nothing hits n e = n refl
     some mask (entry x) hits n e = let z : _≡_ {A = ℕ} 0 1 = cc in omega arith
 
-    none : (mask : ℕ) (x : Decided) (hits : List Hit) → hitOf mask x ++ hits ≡ [] → hits ≡ []
+    none : (mask : ℕ) (x : MaybeEntry) (hits : List Hit) → hitOf mask x ++ hits ≡ [] → hits ≡ []
     none mask nothing hits e = e
     none mask (entry x) hits e = let z : _≡_ {A = ℕ} 0 1 = cc in absurd (omega arith)
 

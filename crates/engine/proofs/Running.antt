@@ -14,23 +14,23 @@ use Rattle.query.specs.Tree.{Tree, treeNodes}
 use Rattle.meaning.specs.Satisfies.{StandsAt}
 use Rattle.meaning.specs.Index.{live}
 use Rattle.row.specs.Row.{StandsIn}
-use Rattle.chain.specs.Chains.{wordAt, maxCandidates}
+use Rattle.chain.specs.Chains.{nodeWord, maxCandidates}
 use Rattle.cursors.specs.Groups.{Group, hitsAt}
-use Rattle.merge.specs.Matching.{NodeAt, WordsAre}
-use Rattle.merge.specs.Opening.{LeavesAre, GroupsOf, Opened}
-use Rattle.merge.proofs.Nodes.{node-at}
-use Rattle.merge.proofs.Standing.{row-law, row-size}
+use Rattle.opening.specs.Matching.{NodeAt, TextIs}
+use Rattle.opening.specs.Opening.{LeavesAre, GroupsOf, Opened}
+use Rattle.opening.proofs.Nodes.{node-at}
+use Rattle.opening.proofs.Standing.{row-law, row-size}
 use Rattle.engine.specs.Run.{IsCompiled, Ran}
-use Rattle.engine.specs.Rows.{maxCursors, RowTells, RowsListed}
+use Rattle.engine.specs.Rows.{maxCursors, RowAgrees, RowsListed}
 
 -- ---- the rows of the groups are the index's
 
-word-at : (nodes : List Node) (i : ℕ) (n : Node) → NodeAt nodes i n → wordAt nodes i ≡ n .word
+word-at : (nodes : List Node) (i : ℕ) (n : Node) → NodeAt nodes i n → nodeWord nodes i ≡ n .word
 word-at [] i n a = let e : length (drop i []) ≡ length (n ∷ a .0) = ap length (a .1) in absurd (omega (arith, length-drop {A = Node} i []))
 word-at (m ∷ nodes) zero n a = let e : m ∷ nodes ≡ n ∷ a .0 = a .1 in let f : m ≡ n = cc in ap (λ (k : Node). k .word) f
 word-at (m ∷ nodes) (suc i) n a = word-at nodes i n a
 
-rows-tell : {nodes : List Node} {index : List (List Term)} {size : ℕ} {groups : List Group} → GroupsOf nodes index size groups → size ≤ maxCandidates → (docid : ℕ) → RowTells nodes (live index) groups docid
+rows-tell : {nodes : List Node} {index : List (List Term)} {size : ℕ} {groups : List Group} → GroupsOf nodes index size groups → size ≤ maxCandidates → (docid : ℕ) → RowAgrees nodes (live index) groups docid
 rows-tell {nodes} {index} {size} {groups} of h docid =
     record {
       agrees = λ i l column position.
@@ -43,7 +43,7 @@ rows-tell {nodes} {index} {size} {groups} of h docid =
 -- ---- the words of a compiled query
 
 words-are : (query : Query) (tree : Tree) → IsCompiled query tree
-    → WordsAre (query .words .text) (query .words .ends) (query .words .marks) (query .words .count) (treeNodes tree)
+    → TextIs (query .words .text) (query .words .ends) (query .words .marks) (query .words .count) (treeNodes tree)
 words-are query tree c =
     let s = ap (λ (q : Query). q .words) (c .same) in
     record {
@@ -56,7 +56,7 @@ words-are query tree c =
 
 module _ {query : Query} {leaves ends docids bodies lasts masks follows : List ℕ} {n size r : ℕ} {room : List ℤ} where
   pub ran : ((nodes : List Node) (columns : ℕ) (index : List (List Term))
-      → WordsAre (query .words .text) (query .words .ends) (query .words .marks) (query .words .count) nodes → LeavesAre columns leaves ends index
+      → TextIs (query .words .text) (query .words .ends) (query .words .marks) (query .words .count) nodes → LeavesAre columns leaves ends index
       → Opened nodes index leaves docids bodies lasts masks follows n)
       → length docids ≡ maxCursors
       → RowsListed query leaves docids bodies lasts masks follows n size r room

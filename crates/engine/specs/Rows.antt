@@ -1,4 +1,4 @@
--- How a run goes from row to row. The cursors stand in groups, and the entries on one docid are its row; the row is judged,
+-- How a run goes from row to row. The cursors stand in groups, and the entries on one docid are its row; the row is evaluated,
 -- and the cursors go on to the next docid. Where just one cursor stands before the others, and its word does not match all
 -- words that the query needs, it passes over its rows up to them: none of these can satisfy the query.
 use Prim.Native.Nat.{ℕ, _≤_, _<_}
@@ -16,7 +16,7 @@ use Rattle.query.specs.Tree.{Tree, treeNodes}
 use Rattle.meaning.specs.Satisfies.{Live, StandsAt, Satisfies}
 use Rattle.meaning.specs.Listing.{Lists}
 use Rattle.row.specs.Row.{Hit, bodiesSize}
-use Rattle.chain.specs.Chains.{maxCandidates, Agrees, Room}
+use Rattle.chain.specs.Chains.{maxCandidates, Agrees, MarkRoom}
 use Rattle.cursors.specs.Groups.{Group, hitsAt, From, NextIs}
 use Rattle.cursors.specs.Arrays.{CursorsAre, MinimaAre}
 use Rattle.cursors.specs.declared.Next.{Next}
@@ -24,7 +24,7 @@ use Rattle.cursors.specs.declared.Next.the-variants.{Docid}
 use Rattle.cursors.specs.declared.Taken.{Taken}
 use Rattle.evaluate.specs.Evaluate.{RowGiven}
 use Rattle.engine.specs.Run.{IsCompiled, fitted}
-use Rattle.engine.specs.declared.Judged.{Judged}
+use Rattle.engine.specs.declared.Evaluated.{Evaluated}
 
 -- a word takes at least 6 of the leaves' 65,536 bytes, so there are no more lists than this
 abbrev pub maxCursors : ℕ
@@ -35,11 +35,11 @@ abbrev pub maxBlocks : ℕ
 maxBlocks = 683
 
 -- the groups' row at a docid tells where the query's words stand in it, and has no more positions than can be marked
-pub record RowTells (nodes : List Node) (live : Live) (groups : List Group) (docid : ℕ) : Type 0 where
+pub record RowAgrees (nodes : List Node) (live : Live) (groups : List Group) (docid : ℕ) : Type 0 where
   pub agrees : Agrees (StandsAt live docid) nodes (hitsAt docid groups)
   pub fits : bodiesSize (hitsAt docid groups) ≤ maxCandidates
 
--- ---- judging a row
+-- ---- evaluating a row
 
 -- a row lacks a word: all of its hits match the same words of the query, and a needed one is not among these
 pub record Lacking (needed : ℕ) (hits : List Hit) : Type 0 where
@@ -54,14 +54,14 @@ RowDecided query leaves starts matched count marks spare r =
     → IsCompiled query tree
     → RowGiven leaves starts matched count hits
     → Agrees (StandsAt live docid) (treeNodes tree) hits
-    → Room marks spare
+    → MarkRoom marks spare
     → (r ≡ true) ↔ Satisfies live docid tree
 
 -- ---- going on
 
--- where just one cursor stood on a docid, every other one stands at `rest` or behind it
-abbrev pub Lone : List ℕ → ℕ → Taken → Type 0
-Lone docids n row = row .taken ≡ 1 → (row .last < n) × ((k : ℕ) → k < n → (k ≡ row .last → ⊥) → row .rest ≤ getD docids k 0)
+-- where just one cursor stood on a docid, every other one stands at `rest` or after it
+abbrev pub OneCursor : List ℕ → ℕ → Taken → Type 0
+OneCursor docids n row = row .taken ≡ 1 → (row .last < n) × ((k : ℕ) → k < n → (k ≡ row .last → ⊥) → row .rest ≤ getD docids k 0)
 
 -- the cursors went on: from the docid `since` on the rows are as they were, and each before it lacks a word
 pub record WentOn (leaves docids bodies lasts masks follows : List ℕ) (n : ℕ) (mins : List ℕ) (needed : ℕ) (groups : List Group) (next : Next) : Type 0 where
@@ -84,14 +84,14 @@ pub record Ready (query : Query) (leaves docids bodies lasts masks follows : Lis
   pub from : From docid groups
   pub starts-room : n ≤ length starts
   pub matched-room : n ≤ length matched
-  pub marks-room : Room marks spare
+  pub marks-room : MarkRoom marks spare
   pub compiled : IsCompiled query tree
-  pub tells : (d : ℕ) → docid ≤ d → RowTells (treeNodes tree) live groups d
+  pub tells : (d : ℕ) → docid ≤ d → RowAgrees (treeNodes tree) live groups d
 
--- the row was judged, and the cursors went on: from the docid `since` on the rows are as they were, and none before it
+-- the row was evaluated, and the cursors went on: from the docid `since` on the rows are as they were, and none before it
 -- satisfies the query
-pub record RowJudged (leaves docids bodies lasts masks follows : List ℕ) (n : ℕ) (mins : List ℕ) (docid : ℕ) (tree : Tree) (live : Live) (groups : List Group) (r : Judged) : Type 0 where
-  pub judged : (r .holds ≡ true) ↔ Satisfies live docid tree
+pub record RowEvaluated (leaves docids bodies lasts masks follows : List ℕ) (n : ℕ) (mins : List ℕ) (docid : ℕ) (tree : Tree) (live : Live) (groups : List Group) (r : Evaluated) : Type 0 where
+  pub exact : (r .holds ≡ true) ↔ Satisfies live docid tree
   pub left : List Group
   pub cursors-are : CursorsAre leaves docids bodies lasts masks follows n left
   pub minima : MinimaAre docids n mins
@@ -111,4 +111,4 @@ pub record RowsListed (query : Query) (leaves docids bodies lasts masks follows 
   pub counted : r ≡ length listed
   pub left : room ≡ fitted size listed
   pub exact : (tree : Tree) (live : Live) (groups : List Group) → IsCompiled query tree → CursorsAre leaves docids bodies lasts masks follows n groups → n ≤ maxCursors
-      → ((docid : ℕ) → RowTells (treeNodes tree) live groups docid) → Lists (λ d. Satisfies live d tree) listed
+      → ((docid : ℕ) → RowAgrees (treeNodes tree) live groups docid) → Lists (λ d. Satisfies live d tree) listed

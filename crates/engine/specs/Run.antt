@@ -10,8 +10,8 @@ use Rattle.doclist.specs.Doclist.{Rising, docidLimit}
 use Rattle.leaf.specs.Leaf.{Term}
 use Rattle.query.specs.declared.Query.{Query}
 use Rattle.query.specs.Tree.{Tree, compile}
-use Rattle.meaning.specs.Listing.{Answers, shown}
-use Rattle.merge.specs.Opening.{LeavesAre}
+use Rattle.meaning.specs.Listing.{Answers, signedDocid}
+use Rattle.opening.specs.Opening.{LeavesAre}
 use Rattle.evaluate.specs.Evaluate.{Fit}
 
 -- ---- the query
@@ -25,7 +25,7 @@ pub record IsCompiled (query : Query) (tree : Tree) : Type 0 where
 
 -- a room of `n` numbers: the docids that fit, then zeros
 abbrev pub fitted : ℕ → List ℕ → List ℤ
-fitted n docids = map shown (take n docids) ++ replicate (n - length docids) (pos 0)
+fitted n docids = map signedDocid (take n docids) ++ replicate (n - length docids) (pos 0)
 
 -- a run with a room of `n` numbers answers `r` and leaves `room`
 pub record Ran (query : Query) (leaves ends : List ℕ) (n r : ℕ) (room : List ℤ) : Type 0 where

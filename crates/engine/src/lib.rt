@@ -10,7 +10,7 @@ ghost use lib.ListN.{length, set};
 ghost use lib.Bits.{bitAnd};
 ghost use Rattle.common.specs.Pick.{pick};
 ghost use Rattle.doclist.specs.Doclist.{docidLimit};
-ghost use Rattle.meaning.specs.Listing.{shown, zeros};
+ghost use Rattle.meaning.specs.Listing.{signedDocid, zeros};
 ghost use Rattle.meaning.specs.Satisfies.{Live};
 ghost use Rattle.query.specs.Tree.{Tree};
 ghost use Rattle.row.specs.Row.{Hit, RowIs};
@@ -18,16 +18,13 @@ ghost use Rattle.cursors.specs.Groups.{Group, NextIs};
 ghost use Rattle.cursors.specs.Arrays.{CursorsAre, MinimaAre};
 ghost use Rattle.evaluate.specs.Needs.{Needed};
 ghost use Rattle.engine.specs.Run.{Ran};
-ghost use Rattle.engine.specs.Rows.{Lacking, RowDecided, Lone, WentOn, Ready, RowJudged, RowsListed};
+ghost use Rattle.engine.specs.Rows.{Lacking, RowDecided, OneCursor, WentOn, Ready, RowEvaluated, RowsListed};
 
 // A word takes at least 6 of the leaves' 65,536 bytes, so there are no more cursors than this.
 const MAX_CURSORS: usize = 10922;
 
 // They stand in blocks of 16.
 const MAX_BLOCKS: usize = 683;
-
-// One above the largest docid.
-const DOCID_LIMIT: u64 = 0x8000_0000_0000_0000;
 
 // Every place of the room becomes 0.
 pub fn clear(room: &mut [i64])
@@ -41,9 +38,9 @@ pub fn clear(room: &mut [i64])
 }
 
 // The docid goes to the place, where the room has that place.
-fn put(room: &mut [i64], at: usize, docid: u64)
+fn put_docid(room: &mut [i64], at: usize, docid: u64)
     requires { ⌜ docid < docidLimit ⌝ }
-    ensures { λ _. ⌜ now (room .exit) ≡ set (now (room .entry)) at (shown docid) ⌝ }
+    ensures { λ _. ⌜ now (room .exit) ≡ set (now (room .entry)) at (signedDocid docid) ⌝ }
 {
     if at < room.len() {
         room[at] = docid as i64;
@@ -53,10 +50,10 @@ fn put(room: &mut [i64], at: usize, docid: u64)
 // Notes the docid if its row satisfies the query. How many are noted then.
 fn note(room: &mut [i64], count: usize, docid: u64, holds: bool) -> usize
     requires { ⌜ (count < docidLimit) × (docid < docidLimit) ⌝ }
-    ensures { λ r. ⌜ (r ≡ pick holds (count + 1) count) × (now (room .exit) ≡ pick holds (set (now (room .entry)) count (shown docid)) (now (room .entry))) ⌝ }
+    ensures { λ r. ⌜ (r ≡ pick holds (count + 1) count) × (now (room .exit) ≡ pick holds (set (now (room .entry)) count (signedDocid docid)) (now (room .entry))) ⌝ }
 {
     if holds {
-        put(room, count, docid);
+        put_docid(room, count, docid);
         return count + 1;
     }
     count
@@ -125,7 +122,7 @@ fn row_holds(
     )
 }
 
-// Where to go on behind a row. If just one cursor stood on it, and its word does not match all that are needed, no row
+// Where to go on after a row. If just one cursor stood on it, and its word does not match all that are needed, no row
 // before the other cursors satisfies the query: the cursor passes over its own up to them.
 fn go_on(
     row: Taken,
@@ -138,7 +135,7 @@ fn go_on(
     n: usize,
     mins: &mut [u64],
 ) -> Next
-    ensures { λ r. ⌜ ((follows : List ℕ) (groups : List Group) → CursorsAre (now (leaves .entry)) (now (docids .entry)) (now (bodies .entry)) (now (lasts .entry)) (now (masks .entry)) follows n groups → MinimaAre (now (docids .entry)) n (now (mins .entry)) → NextIs groups (row .next) → Lone (now (docids .entry)) n row → WentOn (now (leaves .entry)) (now (docids .exit)) (now (bodies .exit)) (now (lasts .entry)) (now (masks .entry)) follows n (now (mins .exit)) needed groups r) ⌝ }
+    ensures { λ r. ⌜ ((follows : List ℕ) (groups : List Group) → CursorsAre (now (leaves .entry)) (now (docids .entry)) (now (bodies .entry)) (now (lasts .entry)) (now (masks .entry)) follows n groups → MinimaAre (now (docids .entry)) n (now (mins .entry)) → NextIs groups (row .next) → OneCursor (now (docids .entry)) n row → WentOn (now (leaves .entry)) (now (docids .exit)) (now (bodies .exit)) (now (lasts .entry)) (now (masks .entry)) follows n (now (mins .exit)) needed groups r) ⌝ }
 {
     let next = row.next;
     if row.taken != 1 {
@@ -155,7 +152,7 @@ fn go_on(
 }
 
 // What a row comes to: whether it satisfies the query, and where to go on.
-struct Judged {
+struct Evaluated {
     holds: bool,
     next: Next,
 }
@@ -177,9 +174,9 @@ fn take_row(
     matched: &mut [u16],
     marks: &mut [u64],
     spare: &mut [u64],
-) -> Judged
+) -> Evaluated
     requires { ⌜ Needed (query .ops .codes) (query .ops .len) (query .words .count) needed ⌝ }
-    ensures { λ r. ⌜ ((tree : Tree) (live : Live) (groups : List Group) → Ready query (now (leaves .entry)) (now (docids .entry)) (now (bodies .entry)) (now (lasts .entry)) (now (masks .entry)) (now (follows .entry)) n (now (mins .entry)) docid (now (starts .entry)) (now (matched .entry)) (now (marks .entry)) (now (spare .entry)) tree live groups → RowJudged (now (leaves .entry)) (now (docids .exit)) (now (bodies .exit)) (now (lasts .entry)) (now (masks .entry)) (now (follows .entry)) n (now (mins .exit)) docid tree live groups r) ⌝ }
+    ensures { λ r. ⌜ ((tree : Tree) (live : Live) (groups : List Group) → Ready query (now (leaves .entry)) (now (docids .entry)) (now (bodies .entry)) (now (lasts .entry)) (now (masks .entry)) (now (follows .entry)) n (now (mins .entry)) docid (now (starts .entry)) (now (matched .entry)) (now (marks .entry)) (now (spare .entry)) tree live groups → RowEvaluated (now (leaves .entry)) (now (docids .exit)) (now (bodies .exit)) (now (lasts .entry)) (now (masks .entry)) (now (follows .entry)) n (now (mins .exit)) docid tree live groups r) ⌝ }
 {
     let row = cursors::advance(
         docid,
@@ -205,7 +202,7 @@ fn take_row(
         marks,
         spare,
     );
-    Judged { holds, next }
+    Evaluated { holds, next }
 }
 
 // Goes through all rows, from the least docid on. The docids of those that satisfy the query go to the room, which is all
@@ -244,7 +241,7 @@ fn rows(
         if docid < from {
             return count;
         }
-        if DOCID_LIMIT <= docid {
+        if doclist::DOCID_LIMIT <= docid {
             return count;
         }
         let row = take_row(
@@ -271,7 +268,7 @@ fn rows(
 }
 
 // Runs a compiled query over leaves that come newest first. The docids that satisfy it, rising, go to the room as far as
-// they fit, and zeros behind them. How many they are.
+// they fit, and zeros after them. How many they are.
 pub fn run(query: query::Query, leaves: &[u8], ends: &[u32], room: &mut [i64]) -> usize
     ensures { λ r. ⌜ Ran query (now (leaves .entry)) (now (ends .entry)) (length (now (room .entry))) r (now (room .exit)) ⌝ }
 {
@@ -285,7 +282,7 @@ pub fn run(query: query::Query, leaves: &[u8], ends: &[u32], room: &mut [i64]) -
     let text = words.text;
     let stops = words.ends;
     let marks = words.marks;
-    let n = merge::open(
+    let n = opening::open(
         &text,
         &stops,
         &marks,

@@ -9,13 +9,13 @@ use lib.Seq.{take-at, length-take-le}
 use Rattle.lexer.specs.Token.{Node, nodeMap, tieNumber, tieDistance, padded}
 use Rattle.query.specs.Tree.{Tree, treeNodes, postfix}
 use Rattle.row.specs.Row.{Hit, RowIs}
-use Rattle.chain.specs.Chains.{WordsAre, RowFits}
-use Rattle.chain.proofs.Nodes.{length-nodeMap}
-use Rattle.evaluate.specs.Evaluate.{Compiled, RowGiven, Decides, Given, Runs}
+use Rattle.chain.specs.Chains.{TiesAre, RowFits}
+use Rattle.lexer.proofs.Nodes.{length-nodeMap}
+use Rattle.evaluate.specs.Evaluate.{Compiled, RowGiven, DecidesQuery, QueryLengths, Runs}
 
 -- ---- the query
 
--- values with zeros behind them
+-- values with zeros after them
 pub padded-cut : (n k : ℕ) (vs array : List ℕ) → array ≡ padded n vs → k ≡ length vs → take k array ≡ vs
 padded-cut n k vs array e f = ap (take k) e ∙ take-at vs (replicate (n - length vs) 0) k (sym f)
 
@@ -26,7 +26,7 @@ module _ (tree : Tree) (ties distances columns : List ℕ) (count : ℕ) (codes 
   mapped : (f : Node → ℕ) → count ≡ length (nodeMap f (treeNodes tree))
   mapped f = c .count-is ∙ sym (length-nodeMap f (treeNodes tree))
 
-  pub words-cut : WordsAre (treeNodes tree) (take count ties) (take count distances) (take count columns)
+  pub words-cut : TiesAre (treeNodes tree) (take count ties) (take count distances) (take count columns)
   words-cut =
       record {
         ties-are = padded-cut 16 count (nodeMap (λ n. tieNumber (n .tie)) (treeNodes tree)) ties (c .ties-are) (mapped (λ n. tieNumber (n .tie)));
@@ -86,7 +86,7 @@ module _ (leaves starts masks : List ℕ) (count : ℕ) (hits : List Hit) (g : R
 
 module _ (ties distances columns : List ℕ) (count : ℕ) (codes : List ℕ) (len : ℕ) (leaves starts masks : List ℕ) (found : ℕ) (marks spare : List ℕ) where
   pub decides-cut : (r : Bool) → Runs (take count ties) (take count distances) (take count columns) (take len codes) leaves (take found starts) (take found masks) marks spare r
-      → Decides ties distances columns count codes len leaves starts masks found marks spare r
+      → DecidesQuery ties distances columns count codes len leaves starts masks found marks spare r
   decides-cut r run tree hits live docid fit c g agrees room =
       run tree hits live docid fit
       (words-cut tree ties distances columns count codes len c)
@@ -95,7 +95,7 @@ module _ (ties distances columns : List ℕ) (count : ℕ) (codes : List ℕ) (l
       agrees room
 
   -- arrays that are too short are none of a compiled query, nor of a row
-  pub decides-none : (Given ties distances columns count codes len starts masks found marks spare → ⊥) → Decides ties distances columns count codes len leaves starts masks found marks spare false
+  pub decides-none : (QueryLengths ties distances columns count codes len starts masks found marks spare → ⊥) → DecidesQuery ties distances columns count codes len leaves starts masks found marks spare false
   decides-none short tree hits live docid fit c g agrees room =
       absurd
       (short

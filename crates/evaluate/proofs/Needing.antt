@@ -13,7 +13,8 @@ use lib.Pow.{pow-pos, pow-mono}
 use borrow.Author.Tests.{le-leb, lt-leb}
 use Rattle.common.specs.Pick.{both}
 use Rattle.common.proofs.Cases.{false-not-true, both-left, both-right, split}
-use Rattle.lexer.specs.Token.{QueryWord, Tie, continues, Node, phraseNodes, begins, nears, allows, maxWords}
+use Rattle.common.specs.Bits.{contains}
+use Rattle.lexer.specs.Token.{QueryWord, Tie, continues, Node, phraseNodes, begins, nears, maxWords}
 use Rattle.query.specs.Tree.{Op, OR, AND, NOT, Link, Tree, leaf, joined, linkNodes, treeNodes, opCode, postfix}
 use Rattle.meaning.specs.Satisfies.{Standing, StandsAt, Consecutive, Occurrence, Chosen, Holds}
 use Rattle.evaluate.specs.Needs.{Somewhere, Needed, conjunctive, firstWords}
@@ -21,19 +22,19 @@ use Rattle.evaluate.proofs.Cuts.{padded-cut}
 
 -- ---- each word stands somewhere
 
-abbrev Each : Standing → List Node → Type 0
-Each stands [] = Unit {0}
-Each stands (n ∷ nodes) = ((column : ℕ) × (position : ℕ) × stands (n .word) column position) × Each stands nodes
+abbrev EachNode : Standing → List Node → Type 0
+EachNode stands [] = Unit {0}
+EachNode stands (n ∷ nodes) = ((column : ℕ) × (position : ℕ) × stands (n .word) column position) × EachNode stands nodes
 
-each-append : (stands : Standing) (ns ms : List Node) → Each stands ns → Each stands ms → Each stands (ns ++ ms)
+each-append : (stands : Standing) (ns ms : List Node) → EachNode stands ns → EachNode stands ms → EachNode stands (ns ++ ms)
 each-append stands [] ms f g = g
 each-append stands (n ∷ ns) ms f g = (f .0, each-append stands ns ms (f .1) g)
 
-each-phrase : (stands : Standing) (t : Tie) (columns : ℕ) (ws : List QueryWord) (c p : ℕ) → Consecutive stands ws c p → Each stands (phraseNodes t columns ws)
+each-phrase : (stands : Standing) (t : Tie) (columns : ℕ) (ws : List QueryWord) (c p : ℕ) → Consecutive stands ws c p → EachNode stands (phraseNodes t columns ws)
 each-phrase stands t columns [] c p h = tt
 each-phrase stands t columns (w ∷ ws) c p h = ((c, p, h .0), each-phrase stands continues columns ws c (suc p) (h .1))
 
-each-links : (stands : Standing) (before : Occurrence) (ls : List Link) → Chosen stands before ls → Each stands (linkNodes ls)
+each-links : (stands : Standing) (before : Occurrence) (ls : List Link) → Chosen stands before ls → EachNode stands (linkNodes ls)
 each-links stands before [] h = tt
 each-links stands before (l ∷ ls) h =
     each-append stands (phraseNodes (nears (l .distance)) (l .phrase .columns) (l .phrase .words)) (linkNodes ls)
@@ -47,7 +48,7 @@ conjunctive-parts (c ∷ cs) ds e =
     let r = conjunctive-parts cs ds (both-right (leb c 1) (conjunctive (cs ++ ds)) e) in
     (ap (λ (b : Bool). both b (conjunctive cs)) l ∙ r .0, r .1)
 
-each-tree : (stands : Standing) (t : Tree) → conjunctive (postfix t) ≡ true → Holds stands t → Each stands (treeNodes t)
+each-tree : (stands : Standing) (t : Tree) → conjunctive (postfix t) ≡ true → Holds stands t → EachNode stands (treeNodes t)
 each-tree stands (leaf c) e h =
     each-append stands (phraseNodes begins (c .first .columns) (c .first .words)) (linkNodes (c .links))
     (each-phrase stands begins (c .first .columns) (c .first .words) (h .0 .column) (h .0 .first) (h .1 .consecutive))
@@ -57,13 +58,13 @@ each-tree stands (joined o a b) e h =
     let r = conjunctive-parts (postfix b) (opCode o ∷ []) (l .1) in
     go o (r .1) h (each-tree stands a (l .0)) (each-tree stands b (r .0))
   where
-    go : (o : Op) → conjunctive (opCode o ∷ []) ≡ true → Holds stands (joined o a b) → (Holds stands a → Each stands (treeNodes a)) → (Holds stands b → Each stands (treeNodes b))
-        → Each stands (treeNodes a ++ treeNodes b)
+    go : (o : Op) → conjunctive (opCode o ∷ []) ≡ true → Holds stands (joined o a b) → (Holds stands a → EachNode stands (treeNodes a)) → (Holds stands b → EachNode stands (treeNodes b))
+        → EachNode stands (treeNodes a ++ treeNodes b)
     go OR e h f g = false-not-true e
     go AND e h f g = each-append stands (treeNodes a) (treeNodes b) (f (h .0)) (g (h .1))
     go NOT e h f g = false-not-true e
 
-each-somewhere : (stands : Standing) (nodes : List Node) (i : ℕ) → i < length nodes → Each stands nodes → Somewhere stands nodes i
+each-somewhere : (stands : Standing) (nodes : List Node) (i : ℕ) → i < length nodes → EachNode stands nodes → Somewhere stands nodes i
 each-somewhere stands [] i h e = absurd (omega arith)
 each-somewhere stands (n ∷ nodes) zero h e = record { inside = h; column = e .0 .0; position = e .0 .1; here = e .0 .2 }
 each-somewhere stands (n ∷ nodes) (suc i) h e =
@@ -76,7 +77,7 @@ each-somewhere stands (n ∷ nodes) (suc i) h e =
 pub power-small : (count : ℕ) → count ≤ maxWords → (0 < 2 ^ count) × (2 ^ count ≤ 65536)
 power-small count h = (pow-pos count, pow-mono {j = 16} h)
 
-first-inside : (count i : ℕ) → allows (firstWords count) i ≡ true → i < count
+first-inside : (count i : ℕ) → contains (firstWords count) i ≡ true → i < count
 first-inside count i e =
     split i count (λ h. h)
     (λ h.

@@ -4,19 +4,20 @@ use Prim.Native.Nat.{ℕ, _+_, _*_, _/_, _%_, _^_, _≤_, _<_}
 use native.Mathlib.Nat.{pow-suc, lt-of-lt-of-le}
 use native.Mathlib.Omega.{arith}
 use mathlib.Core.Path.{_≡_, refl, sym, ap, ap₂, _∙_, subst}
-use mathlib.Core.Bool.{Bool, true, false, not}
-use mathlib.Core.Logic.{_↔_, _⊎_, inl, inr, ⊎-elim}
+use mathlib.Core.Bool.{Bool, true, false}
+use mathlib.Core.Logic.{_↔_}
 use mathlib.Core.List.{List, [], _∷_, _++_, append-assoc, append-nil}
 use lib.ListN.{length}
 use lib.Dec.{eqb}
 use lib.Pow.{pow-mono}
-use Rattle.common.specs.Pick.{pick, both, either}
-use Rattle.common.proofs.Cases.{false-not-true}
+use Rattle.common.specs.Pick.{pick}
+use Rattle.common.proofs.Cases.{both-exactly, either-exactly, both-not-exactly}
+use Rattle.common.proofs.Bits.{quarter, under-pushed}
 use Rattle.lexer.specs.Token.{QueryWord, Node, phraseNodes, begins}
 use Rattle.query.specs.Tree.{Op, OR, AND, NOT, Chain, Tree, leaf, joined, linkNodes, chainNodes, treeNodes, opCode, postfix}
 use Rattle.meaning.specs.Satisfies.{Standing, Holds}
-use Rattle.chain.specs.Chains.{FilledChain, Begins}
-use Rattle.evaluate.specs.Evaluate.{FilledTree, pushed, topOf, combined, applied}
+use Rattle.chain.specs.Chains.{FilledChain, BeginsChain}
+use Rattle.evaluate.specs.Evaluate.{FilledTree, pushBit, topOf, combined, applied}
 
 -- ---- symbols: what the codes stand for
 
@@ -81,12 +82,12 @@ filled-are (joined o a b) f =
     filled-append (symbols a) (symbols b ++ (op o ∷ [])) (filled-are a (f .0)) (filled-append (symbols b) (op o ∷ []) (filled-are b (f .1)) tt)
 
 -- a chain begins with a word that begins an operand
-pub begins-next : (ss : List Symbol) → FilledSymbols ss → Begins (symbolNodes ss)
+pub begins-next : (ss : List Symbol) → FilledSymbols ss → BeginsChain (symbolNodes ss)
 begins-next [] f = tt
 begins-next (op o ∷ ss) f = begins-next ss f
 begins-next (chain c ∷ ss) f = go (c .first .words) (f .0 .0)
   where
-    go : (ws : List QueryWord) → 0 < length ws → Begins ((phraseNodes begins (c .first .columns) ws ++ linkNodes (c .links)) ++ symbolNodes ss)
+    go : (ws : List QueryWord) → 0 < length ws → BeginsChain ((phraseNodes begins (c .first .columns) ws ++ linkNodes (c .links)) ++ symbolNodes ss)
     go [] h = absurd (omega arith)
     go (w ∷ ws) h = refl
 
@@ -121,13 +122,9 @@ top-pushed : (n : ℕ) (b : Bool) → topOf (n * 2 + pick b 1 0) ≡ b
 top-pushed n true = let e : (n * 2 + 1) % 2 ≡ 1 = omega arith in ap (λ (m : ℕ). eqb m 1) e
 top-pushed n false = let e : (n * 2 + 0) % 2 ≡ 0 = omega arith in ap (λ (m : ℕ). eqb m 1) e
 
-under-pushed : (n : ℕ) (b : Bool) → (n * 2 + pick b 1 0) / 2 ≡ n
-under-pushed n true = omega arith
-under-pushed n false = omega arith
-
 -- one more answer
 pub bits-push : (stands : Standing) (stack : ℕ) (ts : List Tree) (t : Tree) (b : Bool) → Bits stands stack ts → length ts ≤ 31 → (b ≡ true) ↔ Holds stands t
-    → Bits stands (pushed stack b) (t ∷ ts)
+    → Bits stands (pushBit stack b) (t ∷ ts)
 bits-push stands stack ts t b bits few is =
     let small : stack < 2 ^ 31 = lt-of-lt-of-le (bits-small stands stack ts bits) (pow-mono few) in
     let same : stack % 2 ^ 31 ≡ stack = omega arith in
@@ -138,27 +135,11 @@ bits-push stands stack ts t b bits few is =
 
 -- ---- the operators
 
-and-is : {A B : Type 0} (a b : Bool) → (a ≡ true) ↔ A → (b ≡ true) ↔ B → (both a b ≡ true) ↔ (A × B)
-and-is true b p q = (λ e. (p .0 refl, q .0 e), λ h. q .1 (h .1))
-and-is false b p q = (λ e. false-not-true e, λ h. p .1 (h .0))
-
-or-is : {A B : Type 0} (a b : Bool) → (a ≡ true) ↔ A → (b ≡ true) ↔ B → (either a b ≡ true) ↔ (A ⊎ B)
-or-is true b p q = (λ e. inl (p .0 refl), λ h. refl)
-or-is false b p q = (λ e. inr (q .0 e), λ h. ⊎-elim (λ x. false-not-true (p .1 x)) (λ y. q .1 y) h)
-
-not-is : {A B : Type 0} (a b : Bool) → (a ≡ true) ↔ A → (b ≡ true) ↔ B → (both a (not b) ≡ true) ↔ (A × (B → ⊥))
-not-is true true p q = (λ e. false-not-true e, λ h. absurd (h .1 (q .0 refl)))
-not-is true false p q = (λ e. (p .0 refl, λ y. false-not-true (q .1 y)), λ h. refl)
-not-is false b p q = (λ e. false-not-true e, λ h. p .1 (h .0))
-
 combined-is : (stands : Standing) (o : Op) (a b : Tree) (x y : Bool) → (x ≡ true) ↔ Holds stands a → (y ≡ true) ↔ Holds stands b
     → (combined (opCode o) x y ≡ true) ↔ Holds stands (joined o a b)
-combined-is stands OR a b x y p q = or-is x y p q
-combined-is stands AND a b x y p q = and-is x y p q
-combined-is stands NOT a b x y p q = not-is x y p q
-
-quarter : (n : ℕ) → n / 4 ≡ n / 2 / 2
-quarter n = omega arith
+combined-is stands OR a b x y p q = either-exactly x y p q
+combined-is stands AND a b x y p q = both-exactly x y p q
+combined-is stands NOT a b x y p q = both-not-exactly x y p q
 
 pub bits-apply : (stands : Standing) (stack : ℕ) (ts : List Tree) (a b : Tree) (o : Op) → Bits stands stack (b ∷ a ∷ ts) → length ts ≤ 31
     → Bits stands (applied stack (opCode o)) (joined o a b ∷ ts)

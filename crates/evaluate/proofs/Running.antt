@@ -7,17 +7,16 @@ use mathlib.Core.Bool.{Bool, true}
 use mathlib.Core.Logic.{_↔_}
 use mathlib.Core.List.{List, [], _∷_, append-nil}
 use lib.ListN.{length, getD, drop, drop-of-length-le, length-drop, length-append}
-use Rattle.common.proofs.Lists.{drop-head}
+use Rattle.common.proofs.Lists.{drop-head, drop-outside, drop-past}
 use Rattle.lexer.specs.Token.{phraseNodes, begins}
 use Rattle.query.specs.Tree.{Op, OR, AND, NOT, Chain, Tree, leaf, joined, linkNodes, chainNodes, treeNodes, opCode, postfix}
 use Rattle.meaning.specs.Satisfies.{Live, StandsAt, Satisfies}
 use Rattle.row.specs.Row.{Hit}
-use Rattle.chain.specs.Chains.{WordsAre, FilledChain, chainEnd, RowFits, Agrees, ChainAt, Room}
+use Rattle.chain.specs.Chains.{TiesAre, FilledChain, chainEnd, RowFits, Agrees, ChainAt, MarkRoom}
 use Rattle.chain.specs.Chains as chains
-use Rattle.chain.proofs.General.{drop-outside, drop-behind}
-use Rattle.chain.proofs.Nodes.{length-phraseNodes}
+use Rattle.lexer.proofs.Nodes.{length-phraseNodes}
 use Rattle.chain.proofs.Chaining.{end-is}
-use Rattle.evaluate.specs.Evaluate.{Fit, pushed, applied, topOf}
+use Rattle.evaluate.specs.Evaluate.{Fit, pushBit, applied, topOf}
 use Rattle.evaluate.proofs.Postfix.{Symbol, chain, op, symbols, symbolCodes, symbolNodes, FilledSymbols, codes-are, nodes-are, filled-are, begins-next, Pending, pending-tree, Bits, bits-push, bits-apply}
 
 pub record Running (tree : Tree) (live : Live) (docid : ℕ) (codes : List ℕ) (stack word i : ℕ) : Type 0 where
@@ -74,14 +73,14 @@ op-code NOT e = omega arith
 
 module _ (tree : Tree) (fit : Fit tree) (live : Live) (docid : ℕ) (codes : List ℕ) (stack word i : ℕ) (r : Running tree live docid codes stack word i) (inside : i < length codes) where
   -- a chain: its answer is put on the stack
-  module _ (ties distances columns leaves starts masks marks spare : List ℕ) (hits : List Hit) (words : WordsAre (treeNodes tree) ties distances columns)
-      (row : RowFits leaves starts masks hits) (agrees : Agrees (StandsAt live docid) (treeNodes tree) hits) (room : Room marks spare)
-      (b : Bool) (decides : chains.Decides ties distances columns word leaves starts masks marks spare b) where
-    pub running-chain : getD codes i 0 ≡ 0 → Running tree live docid codes (pushed stack b) (chainEnd ties word) (i + 1)
+  module _ (ties distances columns leaves starts masks marks spare : List ℕ) (hits : List Hit) (words : TiesAre (treeNodes tree) ties distances columns)
+      (row : RowFits leaves starts masks hits) (agrees : Agrees (StandsAt live docid) (treeNodes tree) hits) (room : MarkRoom marks spare)
+      (b : Bool) (decides : chains.DecidesChain ties distances columns word leaves starts masks marks spare b) where
+    pub running-chain : getD codes i 0 ≡ 0 → Running tree live docid codes (pushBit stack b) (chainEnd ties word) (i + 1)
     running-chain z = go (r .left) (r .codes-left) (r .words-left) (r .filled) (r .pending)
       where
         go : (ss : List Symbol) → drop i codes ≡ symbolCodes ss → drop word (treeNodes tree) ≡ symbolNodes ss → FilledSymbols ss → Pending tree ss (r .trees)
-            → Running tree live docid codes (pushed stack b) (chainEnd ties word) (i + 1)
+            → Running tree live docid codes (pushBit stack b) (chainEnd ties word) (i + 1)
         go [] e n f p = absurd (omega (arith, drop-outside codes i e))
         go (op o ∷ ss) e n f p =
             let h = drop-head codes i (opCode o) (symbolCodes ss) e in
@@ -97,7 +96,7 @@ module _ (tree : Tree) (fit : Fit tree) (live : Live) (docid : ℕ) (codes : Lis
               left = ss;
               trees = leaf c ∷ r .trees;
               codes-left = h .2;
-              words-left = ap (λ (k : ℕ). drop k (treeNodes tree)) w ∙ drop-behind (treeNodes tree) word (chainNodes c) (symbolNodes ss) n;
+              words-left = ap (λ (k : ℕ). drop k (treeNodes tree)) w ∙ drop-past (treeNodes tree) word (chainNodes c) (symbolNodes ss) n;
               filled = f .1;
               pending = p;
               bits =
@@ -141,6 +140,6 @@ pub running-same : (tree : Tree) (live : Live) (docid : ℕ) (codes : List ℕ) 
 running-same tree live docid codes s t v w i e f r =
     subst (λ (n : ℕ). Running tree live docid codes n w i) (sym e) (subst (λ (n : ℕ). Running tree live docid codes s n i) (sym f) r)
 
-pub room-same : (marks spare marks′ spare′ : List ℕ) → length marks′ ≡ length marks → length spare′ ≡ length spare → Room marks spare → Room marks′ spare′
+pub room-same : (marks spare marks′ spare′ : List ℕ) → length marks′ ≡ length marks → length spare′ ≡ length spare → MarkRoom marks spare → MarkRoom marks′ spare′
 room-same marks spare marks′ spare′ e f r =
     record { marks-room = omega (arith, r .marks-room); spare-room = omega (arith, r .spare-room) }

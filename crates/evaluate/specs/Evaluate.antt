@@ -1,4 +1,4 @@
--- Whether a compiled query holds in one row. The promise (`Decides`) is about `Satisfies` of the crate meaning: where the
+-- Whether a compiled query holds in one row. The promise (`DecidesQuery`) is about `Satisfies` of the crate meaning: where the
 -- arrays are those of a tree's compiled query, and the row's hits tell where the query's words stand in the docid, the
 -- answer is whether the docid satisfies the tree.
 use Prim.Native.Nat.{ℕ, _+_, _*_, _%_, _/_, _^_, _≤_}
@@ -13,7 +13,7 @@ use Rattle.lexer.specs.Token.{maxWords}
 use Rattle.query.specs.Tree.{Tree, leaf, joined, treeNodes, postfix, compile}
 use Rattle.meaning.specs.Satisfies.{Live, StandsAt, Satisfies}
 use Rattle.row.specs.Row.{Hit, RowIs, bodiesSize}
-use Rattle.chain.specs.Chains.{WordsAre, FilledChain, maxCandidates, RowFits, Agrees, Room}
+use Rattle.chain.specs.Chains.{TiesAre, FilledChain, maxCandidates, RowFits, Agrees, MarkRoom}
 
 -- ---- what is given
 
@@ -44,42 +44,42 @@ pub record RowGiven (leaves starts masks : List ℕ) (count : ℕ) (hits : List 
 
 -- ---- the promise
 
-abbrev pub Decides : (ties distances columns : List ℕ) (count : ℕ) (codes : List ℕ) (len : ℕ) (leaves starts masks : List ℕ) (found : ℕ) (marks spare : List ℕ) → Bool → Type 0
-Decides ties distances columns count codes len leaves starts masks found marks spare r =
+abbrev pub DecidesQuery : (ties distances columns : List ℕ) (count : ℕ) (codes : List ℕ) (len : ℕ) (leaves starts masks : List ℕ) (found : ℕ) (marks spare : List ℕ) → Bool → Type 0
+DecidesQuery ties distances columns count codes len leaves starts masks found marks spare r =
     (tree : Tree) (hits : List Hit) (live : Live) (docid : ℕ)
     → Fit tree
     → Compiled tree ties distances columns count codes len
     → RowGiven leaves starts masks found hits
     → Agrees (StandsAt live docid) (treeNodes tree) hits
-    → Room marks spare
+    → MarkRoom marks spare
     → (r ≡ true) ↔ Satisfies live docid tree
 
 -- whatever the arrays hold: they are long enough for the words, the codes and the hits, and to work in
-pub record Given (ties distances columns : List ℕ) (count : ℕ) (codes : List ℕ) (len : ℕ) (starts masks : List ℕ) (found : ℕ) (marks spare : List ℕ) : Type 0 where
+pub record QueryLengths (ties distances columns : List ℕ) (count : ℕ) (codes : List ℕ) (len : ℕ) (starts masks : List ℕ) (found : ℕ) (marks spare : List ℕ) : Type 0 where
   pub tie-room : count ≤ length ties
   pub distance-room : count ≤ length distances
   pub column-room : count ≤ length columns
   pub code-room : len ≤ length codes
   pub start-room : found ≤ length starts
   pub mask-room : found ≤ length masks
-  pub room : Room marks spare
+  pub room : MarkRoom marks spare
 
 -- the same of arrays that are cut to their lengths
 abbrev pub Runs : (ties distances columns codes leaves starts masks marks spare : List ℕ) → Bool → Type 0
 Runs ties distances columns codes leaves starts masks marks spare r =
     (tree : Tree) (hits : List Hit) (live : Live) (docid : ℕ)
     → Fit tree
-    → WordsAre (treeNodes tree) ties distances columns
+    → TiesAre (treeNodes tree) ties distances columns
     → codes ≡ postfix tree
     → RowFits leaves starts masks hits
     → Agrees (StandsAt live docid) (treeNodes tree) hits
-    → Room marks spare
+    → MarkRoom marks spare
     → (r ≡ true) ↔ Satisfies live docid tree
 
 -- ---- the stack: a bit for each answer, the last one lowest
 
-abbrev pub pushed : ℕ → Bool → ℕ
-pushed stack b = stack % 2 ^ 31 * 2 + pick b 1 0
+abbrev pub pushBit : ℕ → Bool → ℕ
+pushBit stack b = stack % 2 ^ 31 * 2 + pick b 1 0
 
 abbrev pub topOf : ℕ → Bool
 topOf stack = eqb (stack % 2) 1
@@ -89,4 +89,4 @@ abbrev pub combined : ℕ → Bool → Bool → Bool
 combined code a b = pick (eqb code 1) (both a b) (pick (eqb code 2) (either a b) (both a (not b)))
 
 abbrev pub applied : ℕ → ℕ → ℕ
-applied stack code = pushed (stack / 4) (combined code (topOf (stack / 2)) (topOf stack))
+applied stack code = pushBit (stack / 4) (combined code (topOf (stack / 2)) (topOf stack))

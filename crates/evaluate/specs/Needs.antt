@@ -7,10 +7,11 @@ use mathlib.Core.List.{List, [], _∷_}
 use lib.ListN.{length, take}
 use lib.Dec.{leb, ltb}
 use Rattle.common.specs.Pick.{pick, both}
-use Rattle.lexer.specs.Token.{Node, maxWords, allows}
+use Rattle.common.specs.Bits.{contains}
+use Rattle.lexer.specs.Token.{Node, maxWords}
 use Rattle.query.specs.Tree.{AND, Tree, treeNodes, opCode, compile}
 use Rattle.meaning.specs.Satisfies.{Live, Standing, StandsAt, Satisfies}
-use Rattle.chain.specs.Chains.{wordAt}
+use Rattle.chain.specs.Chains.{nodeWord}
 
 -- ---- what is given
 
@@ -27,7 +28,7 @@ pub record Somewhere (stands : Standing) (nodes : List Node) (i : ℕ) : Type 0 
   pub inside : i < length nodes
   pub column : ℕ
   pub position : ℕ
-  pub here : stands (wordAt nodes i) column position
+  pub here : stands (nodeWord nodes i) column position
 
 -- each word of the set stands in every row that satisfies the query
 abbrev pub Needed : List ℕ → ℕ → ℕ → ℕ → Type 0
@@ -36,7 +37,7 @@ Needed codes len count r =
     → Coded tree codes len count
     → Satisfies live docid tree
     → (i : ℕ)
-    → allows r i ≡ true
+    → contains r i ≡ true
     → Somewhere (StandsAt live docid) (treeNodes tree) i
 
 -- ---- how it is told

@@ -2,8 +2,8 @@
 ghost use mathlib.Core.Path.{_≡_};
 ghost use Prim.Native.Nat.{_≤_};
 ghost use Rattle.lexer.specs.Token.{maxWords};
-ghost use Rattle.chain.specs.Chains.{Refused, RoomsKept};
-ghost use Rattle.evaluate.specs.Evaluate.{Decides, Given, Runs, pushed, combined, applied, topOf};
+ghost use Rattle.chain.specs.Chains.{NotEvaluated, RoomsKept};
+ghost use Rattle.evaluate.specs.Evaluate.{DecidesQuery, QueryLengths, Runs, pushBit, combined, applied, topOf};
 ghost use Rattle.evaluate.specs.Needs.{conjunctive, firstWords, needsOf, Needed};
 
 // The codes of a compiled query. What is none of them is taken as NOT.
@@ -13,9 +13,6 @@ const CODE_AND: u8 = 1;
 
 const CODE_OR: u8 = 2;
 
-// A query has no more words than this.
-const MAX_WORDS: usize = 16;
-
 // The answer where the arrays are too short.
 const TOO_SHORT: bool = false;
 
@@ -24,7 +21,7 @@ const KEPT: u32 = 0x8000_0000;
 
 // The stack with one more answer on it.
 fn push(stack: u32, answer: bool) -> u32
-    ensures { λ r. ⌜ r ≡ pushed stack answer ⌝ }
+    ensures { λ r. ⌜ r ≡ pushBit stack answer ⌝ }
 {
     if answer {
         return stack % KEPT * 2 + 1;
@@ -120,8 +117,8 @@ pub fn holds(
     marks: &mut [u64],
     spare: &mut [u64],
 ) -> bool
-    ensures content { λ r. ⌜ Decides (now (ties .entry)) (now (distances .entry)) (now (columns .entry)) count (now (codes .entry)) len (now (leaves .entry)) (now (starts .entry)) (now (masks .entry)) hits (now (marks .entry)) (now (spare .entry)) r ⌝ }
-    ensures otherwise { λ r. ⌜ ((Given (now (ties .entry)) (now (distances .entry)) (now (columns .entry)) count (now (codes .entry)) len (now (starts .entry)) (now (masks .entry)) hits (now (marks .entry)) (now (spare .entry)) → ⊥) → Refused (now (marks .entry)) (now (marks .exit)) (now (spare .entry)) (now (spare .exit)) r) ⌝ }
+    ensures content { λ r. ⌜ DecidesQuery (now (ties .entry)) (now (distances .entry)) (now (columns .entry)) count (now (codes .entry)) len (now (leaves .entry)) (now (starts .entry)) (now (masks .entry)) hits (now (marks .entry)) (now (spare .entry)) r ⌝ }
+    ensures otherwise { λ r. ⌜ ((QueryLengths (now (ties .entry)) (now (distances .entry)) (now (columns .entry)) count (now (codes .entry)) len (now (starts .entry)) (now (masks .entry)) hits (now (marks .entry)) (now (spare .entry)) → ⊥) → NotEvaluated (now (marks .entry)) (now (marks .exit)) (now (spare .entry)) (now (spare .exit)) r) ⌝ }
     ensures frame { λ _. ⌜ RoomsKept (now (marks .entry)) (now (marks .exit)) (now (spare .entry)) (now (spare .exit)) ⌝ }
 {
     if ties.len() < count {
@@ -192,7 +189,7 @@ pub fn needs(codes: &[u8], len: usize, count: usize) -> u16
     if codes.len() < len {
         return 0;
     }
-    if MAX_WORDS < count {
+    if lexer::MAX_WORDS < count {
         return 0;
     }
     if !is_conjunction(&codes[..len]) {

@@ -23,17 +23,17 @@ abbrev pub Checked : ℕ → List ℕ → ℕ → ℕ → Type 0
 Checked columns leaf number second = FirstDue (checkRefusals columns leaf) (numbers 0 0) (numbers number second)
 
 -- where the part of a lookup begins; 0 where there is none
-abbrev pub wordStart : WordAnswer → ℕ
-wordStart (word.Found start size) = start
-wordStart word.Nothing = 0
-wordStart word.Shape = 0
-wordStart word.Broken = 0
+abbrev pub answerStart : WordAnswer → ℕ
+answerStart (word.Found start size) = start
+answerStart word.Nothing = 0
+answerStart word.Shape = 0
+answerStart word.Broken = 0
 
 pub record LookedUp (columns : ℕ) (leaf wanted : List ℕ) (number second start : ℕ) : Type 0 where
   pub answer : WordAnswer
   pub right : WordIs columns leaf wanted answer
   pub numbers-are : numbers number second ≡ wordNumbers answer
-  pub start-is : start ≡ wordStart answer
+  pub start-is : start ≡ answerStart answer
 
 abbrev pub entryStart : EntryAnswer → ℕ
 entryStart (entry.Newer start size) = start
@@ -59,7 +59,7 @@ pub record Decided (columns : ℕ) (newer older wanted : List ℕ) (docid : ℤ)
   pub leaf-is : leaf ≡ entryLeaf answer
   pub start-is : start ≡ entryStart answer
 
--- writing the leaf for one document into a room that was `before` and is `after`
+-- writing the leaf for one document into a room that holds `before` when it is called and `after` when it returns
 pub record Written (docid : ℤ) (texts ends before after : List ℕ) (number second : ℕ) : Type 0 where
   pub answer : Answer
   pub right : writer.WriteIs docid texts ends (length before) answer
@@ -67,7 +67,7 @@ pub record Written (docid : ℤ) (texts ends before after : List ℕ) (number se
   pub room-is : after ≡ writer.roomOf docid texts ends (length before)
   pub numbers-are : numbers number second ≡ writer.numbersOf answer
 
--- a search with a room of `n` numbers, which is `after` then
+-- a search with a room of `n` numbers, which holds `after` when it returns
 pub record Found (x : answers.Input) (n : ℕ) (after : List ℤ) (number second : ℕ) : Type 0 where
   pub answer : listing.Answer
   pub right : answers.Searched x n answer after

@@ -9,7 +9,7 @@ ghost use lib.ListN.{length};
 ghost use Rattle.leaf.specs.Answers.{checkNumbers};
 ghost use Rattle.writer.specs.Answers.{numbersOf};
 ghost use Rattle.search.specs.Search as answers;
-ghost use Rattle.fts4box.specs.Calls.{Checked, LookedUp, Decided, Written, Found, wordStart, entryStart, entryLeaf};
+ghost use Rattle.fts4box.specs.Calls.{Checked, LookedUp, Decided, Written, Found, answerStart, entryStart, entryLeaf};
 
 const ACCEPTED: u32 = 0;
 
@@ -43,7 +43,7 @@ pub extern "C" fn fts4_check(leaf: &[u8], columns: u32, second: &mut u64) -> u32
 }
 
 fn word_start(answer: WordAnswer) -> u64
-    ensures { λ r. ⌜ r ≡ wordStart answer ⌝ }
+    ensures { λ r. ⌜ r ≡ answerStart answer ⌝ }
 {
     match answer {
         WordAnswer::Found { start, size: _ } => start as u64,

@@ -14,9 +14,10 @@ use Rattle.common.specs.Bytes.{within}
 use Rattle.common.specs.Refusals.{numbers, Exclusive, Numbered}
 use Rattle.common.proofs.Cases.{bool-case, false-not-true, split, both-left, both-right, both-true}
 use Rattle.common.proofs.Refusals.{number-differs, first-due-once}
+use Rattle.common.specs.Bounds.{maxIndexBytes}
 use Rattle.leaf.specs.Leaf.{IsLeaf, NoLeaf}
 use Rattle.leaf.specs.Reading.{walkOf, isLeaf}
-use Rattle.leaf.specs.Answers.{maxLeaves, checkNumbers, CheckShape, leafRefusals, checkRefusals, CheckIs, checkLeaf}
+use Rattle.leaf.specs.Answers.{checkNumbers, CheckShape, leafRefusals, checkRefusals, CheckIs, checkLeaf}
 use Rattle.leaf.specs.declared.Sound.{Sound}
 use Rattle.leaf.specs.declared.LeafCheck.{LeafCheck}
 use Rattle.leaf.specs.declared.LeafCheck.the-variants.{Accepted, Shape, Broken}
@@ -72,21 +73,21 @@ module _ (count : ℕ) (s : List ℕ) where
 
 -- whether number 1 is not due, as the check tests it
 abbrev rightShape : ℕ → List ℕ → Bool
-rightShape count s = both (within 1 16 count) (leb (length s) maxLeaves)
+rightShape count s = both (within 1 16 count) (leb (length s) maxIndexBytes)
 
 shape-true : (count : ℕ) (s : List ℕ) → CheckShape count s → rightShape count s ≡ true
 shape-true count s h =
-    both-true (within 1 16 count) (leb (length s) maxLeaves)
+    both-true (within 1 16 count) (leb (length s) maxIndexBytes)
     (both-true (leb 1 count) (leb count 16) (le-leb 1 count (h .some)) (le-leb count 16 (h .few)))
-    (le-leb (length s) maxLeaves (h .size))
+    (le-leb (length s) maxIndexBytes (h .size))
 
 shape-is : (count : ℕ) (s : List ℕ) → rightShape count s ≡ true → CheckShape count s
 shape-is count s e =
-    let a = both-left (within 1 16 count) (leb (length s) maxLeaves) e in
+    let a = both-left (within 1 16 count) (leb (length s) maxIndexBytes) e in
     record {
       some = leb-true 1 count (both-left (leb 1 count) (leb count 16) a);
       few = leb-true count 16 (both-right (leb 1 count) (leb count 16) a);
-      size = leb-true (length s) maxLeaves (both-right (within 1 16 count) (leb (length s) maxLeaves) e);
+      size = leb-true (length s) maxIndexBytes (both-right (within 1 16 count) (leb (length s) maxIndexBytes) e);
     }
 
 module _ (count : ℕ) (s : List ℕ) where
@@ -137,8 +138,8 @@ module _ (count : ℕ) (s : List ℕ) where
   pub many-columns : 16 < count → Shape ≡ checkLeaf count s
   many-columns h = sym (simp (le-leb 1 count (omega arith), lt-leb count 16 h))
 
-  pub too-long : 1 ≤ count → count ≤ 16 → maxLeaves < length s → Shape ≡ checkLeaf count s
-  too-long l h m = sym (simp (le-leb 1 count l, le-leb count 16 h, lt-leb (length s) maxLeaves m))
+  pub too-long : 1 ≤ count → count ≤ 16 → maxIndexBytes < length s → Shape ≡ checkLeaf count s
+  too-long l h m = sym (simp (le-leb 1 count l, le-leb count 16 h, lt-leb (length s) maxIndexBytes m))
 
   module _ (h : CheckShape count s) {r : Sound} (e : r ≡ walkOf count s) where
     pub no-words : r .words ≡ 0 → Broken ≡ checkLeaf count s
@@ -159,3 +160,7 @@ module _ (count : ℕ) (s : List ℕ) where
         let x : walkOf count s .end ≡ length s = ap (λ (q : Sound). q .end) (sym e) ∙ z in
         let t : 0 < walkOf count s .words = split 0 (walkOf count s .words) (λ p. p) (λ p. absurd (n (omega arith))) in
         sym (rw (shape-true count s h, both-true (ltb 0 (walkOf count s .words)) (eqb (walkOf count s .end) (length s)) (lt-ltb _ _ t) (eq-eqb _ _ x)) refl)
+
+-- what `check` promises of its answer
+abbrev pub CheckPromise : ℕ → List ℕ → LeafCheck → Type 0
+CheckPromise count s r = (a : LeafCheck) → (r ≡ a) ↔ CheckIs count s a

@@ -1,5 +1,5 @@
 -- What is found at a word's place is what the bytes from there on say: the prefix's number, but at the first word's
--- place; a suffix behind its length; a posting list's bytes behind theirs (`head-sound`, `head-found`).
+-- place; a suffix after its length; a posting list's bytes after theirs (`head-sound`, `head-found`).
 use Prim.Native.Nat.{ℕ, _+_, _-_, _^_, _≤_, _<_}
 use native.Mathlib.Omega.{arith}
 use mathlib.Core.Path.{_≡_, refl, sym, ap, ap₂, _∙_}
@@ -11,15 +11,16 @@ use borrow.Author.Tests.{le-ltb, eq-eqb, ne-eqb, ltb-false, eqb-false}
 use Rattle.common.specs.Bytes.{part}
 use Rattle.common.proofs.Cases.{pick-case, same-or}
 use Rattle.common.proofs.Lists.{drop-past, drop-room}
-use Rattle.varint.specs.Varint.{encode, readAt, StoredAt, maxBytes}
+use Rattle.common.proofs.Parts.{part-rest, part-length, part-here}
+use Rattle.common.specs.Bounds.{maxWord}
+use Rattle.varint.specs.Varint.{encode, readAt, StoredAt, maxVarint}
 use Rattle.varint.specs.declared.Varint.the-variants as varint
 use Rattle.varint.proofs.Laws.{varint-case, stored-at, reads, next-after, next-within}
-use Rattle.leaf.specs.Leaf.{maxWord, sized}
+use Rattle.leaf.specs.Leaf.{sized}
 use Rattle.leaf.specs.Reading.{onHead, suffixAt, firstWord, headAt}
 use Rattle.leaf.specs.Rest.{prefixNumber}
 use Rattle.leaf.specs.declared.Head.{Head}
 use Rattle.leaf.specs.declared.Head.the-variants.{Found, Refused}
-use Rattle.leaf.proofs.General.{part-rest, part-length, part-here}
 
 -- ---- cases
 
@@ -60,7 +61,7 @@ pub record HeadIs (s : List ℕ) (at prefix from size list next : ℕ) : Type 0 
   pub bytes : drop at s ≡ prefixNumber at prefix ++ (sized (part s from (from + size)) ++ (sized (part s list next) ++ drop next s))
 
 module _ (s : List ℕ) where
-  -- the same behind the prefix's number
+  -- the same after the prefix's number
   record SuffixIs (prefix at from size list next : ℕ) : Type 0 where
     pub some : 0 < size
     pub short : prefix + size ≤ maxWord
@@ -70,8 +71,8 @@ module _ (s : List ℕ) where
     pub within : next ≤ length s
     pub bytes : drop at s ≡ sized (part s from (from + size)) ++ (sized (part s list next) ++ drop next s)
 
-  stored-suffix : (p at v f m l : ℕ) → StoredAt maxBytes s at v f → 0 < v → p + v ≤ maxWord → v ≤ length s - f
-      → StoredAt maxBytes s (f + v) m l → m ≤ length s - l → SuffixIs p at f v l (l + m)
+  stored-suffix : (p at v f m l : ℕ) → StoredAt maxVarint s at v f → 0 < v → p + v ≤ maxWord → v ≤ length s - f
+      → StoredAt maxVarint s (f + v) m l → m ≤ length s - l → SuffixIs p at f v l (l + m)
   stored-suffix p at v f m l st1 h0 h1 h2 st2 h3 =
       let fw = next-within (omega arith) st1 in
       let lw = next-within (omega arith) st2 in
@@ -187,8 +188,8 @@ module _ (s : List ℕ) where
       let d4 : drop l s ≡ bytes ++ tail = drop-past s (f + v) (encode m) _ d3 in
       let r2 : v ≤ length s - f = drop-room s f suffix _ d2 in
       let r4 : m ≤ length s - l = drop-room s l bytes _ d4 in
-      let e1 = reads maxBytes s at v (suffix ++ (encode m ++ (bytes ++ tail))) (omega arith) (omega arith) d1 in
-      let e2 = reads maxBytes s (f + v) m (bytes ++ tail) (omega arith) (omega arith) d3 in (
+      let e1 = reads maxVarint s at v (suffix ++ (encode m ++ (bytes ++ tail))) (omega arith) (omega arith) d1 in
+      let e2 = reads maxVarint s (f + v) m (bytes ++ tail) (omega arith) (omega arith) d3 in (
         f,
         l,
         simp (e1, ne-eqb v 0 (omega arith), le-ltb maxWord v (omega arith), le-ltb (maxWord - v) p (omega arith), le-ltb (length s - f) v r2, e2, le-ltb (length s - l) m r4),
@@ -219,7 +220,7 @@ module _ (s : List ℕ) where
       later i =
           let t = ne-eqb at firstWord i in
           let d = rw t at e in
-          let e1 = reads maxBytes s at p (sized suffix ++ (sized bytes ++ tail)) (omega arith) (omega arith) d in
+          let e1 = reads maxVarint s at p (sized suffix ++ (sized bytes ++ tail)) (omega arith) (omega arith) d in
           let k = suffix-found p (at + length (encode p)) suffix bytes tail small h0 h1 (drop-past s at (encode p) _ d) in
           record {
             from = k .0;

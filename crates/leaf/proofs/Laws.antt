@@ -11,15 +11,16 @@ use lib.Seq.{take-length}
 use lib.Dec.{ltb, eqb}
 use borrow.Author.Tests.{lt-ltb, eq-eqb, ne-eqb, ltb-true, eqb-true, eqb-false}
 use Rattle.common.proofs.Cases.{pick-case, both-left, both-right, both-true}
-use Rattle.varint.specs.Varint.{encode, encodeIn, maxBytes, readAt}
+use Rattle.common.proofs.Lists.{front-here}
+use Rattle.common.specs.Bounds.{maxIndexBytes}
+use Rattle.varint.specs.Varint.{encode, encodeIn, maxVarint, readAt}
 use Rattle.varint.specs.declared.Varint.the-variants as varint
 use Rattle.varint.proofs.Laws.{varint-case, refused-no-value, value-same, stored-at, reads, next-within}
 use Rattle.doclist.proofs.Unique.{list-unique}
 use Rattle.leaf.specs.Leaf.{Term, WellFormed, termBytes, encodeTerms, encodeLeaf, LeafIs, IsLeaf, SoundFront}
-use Rattle.leaf.specs.Reading.{firstWord, walkFrom, noFront, frontOf, walkOf, isLeaf}
+use Rattle.leaf.specs.Reading.{firstWord, walkFrom, noSound, frontOf, walkOf, isLeaf}
 use Rattle.leaf.specs.Rest.{restBytes, RestIs}
 use Rattle.leaf.specs.declared.Sound.{Sound}
-use Rattle.leaf.proofs.General.{front-here}
 use Rattle.leaf.proofs.Rest.{leaf-rest, head-there, head-complete, none-left}
 use Rattle.leaf.proofs.Walking.{stop, walk-end, front-sound, Passed, walk-passes}
 
@@ -30,12 +31,12 @@ leaf-bytes [] tail h = absurd (omega arith)
 leaf-bytes (t ∷ ts) tail h = sym (append-assoc (encode 0) (restBytes firstWord [] (t ∷ ts)) tail)
 
 module _ (count : ℕ) (s : List ℕ) (small : length s < 2 ^ 63) where
-  -- the walk begins behind the height 0, or it stops at once
+  -- the walk begins after the height 0, or it stops at once
   walk-case : (P : Sound → Type 0) → (readAt s 0 ≡ varint.Value 0 1 → P (frontOf (walkFrom (length s) count s firstWord [] 0)))
-      → ((readAt s 0 ≡ varint.Value 0 1 → ⊥) → P noFront) → P (walkOf count s)
+      → ((readAt s 0 ≡ varint.Value 0 1 → ⊥) → P noSound) → P (walkOf count s)
   unfolding encodeIn
   walk-case P f g =
-      varint-case P noFront (readAt s 0) _
+      varint-case P noSound (readAt s 0) _
       (λ h n e. pick-case P (eqb h 0) _ _ (λ z. zero-height h n e (eqb-true h 0 z)) (λ z. g (λ q. eqb-false h 0 z (value-same e q))))
       (λ e. g (λ q. refused-no-value 0 1 e q))
     where
@@ -46,8 +47,8 @@ module _ (count : ℕ) (s : List ℕ) (small : length s < 2 ^ 63) where
 
   height-there : (ts : List Term) (rest : List ℕ) → s ≡ encodeLeaf ts ++ rest → readAt s 0 ≡ varint.Value 0 1
   unfolding encodeIn
-  height-there [] rest e = reads maxBytes s 0 0 rest (omega arith) (omega arith) e
-  height-there (t ∷ ts) rest e = reads maxBytes s 0 0 (termBytes (t .word) (t .entries) ++ encodeTerms (t .word) ts ++ rest) (omega arith) (omega arith) (e ∙ simp append-assoc)
+  height-there [] rest e = reads maxVarint s 0 0 rest (omega arith) (omega arith) e
+  height-there (t ∷ ts) rest e = reads maxVarint s 0 0 (termBytes (t .word) (t .entries) ++ encodeTerms (t .word) ts ++ rest) (omega arith) (omega arith) (e ∙ simp append-assoc)
 
   -- the terms of a leaf are passed
   passed : (ts : List Term) (tail : List ℕ) → WellFormed count ts → s ≡ encodeLeaf ts ++ tail → Passed count s small (length s) firstWord [] 0 ts tail
@@ -91,7 +92,7 @@ module _ (count : ℕ) (s : List ℕ) (small : length s < 2 ^ 63) where
             most = most-found;
           }
 
-      none : ((ts : List Term) (rest : List ℕ) → WellFormed count ts → s ≡ encodeLeaf ts ++ rest → ⊥) → Is noFront
+      none : ((ts : List Term) (rest : List ℕ) → WellFormed count ts → s ≡ encodeLeaf ts ++ rest → ⊥) → Is noSound
       none n =
           record {
             terms = [];
@@ -160,3 +161,8 @@ pub leaf-unique : (count : ℕ) (ts us : List Term) → length (encodeLeaf ts) <
 leaf-unique count ts us small w v e =
     rest-unique count (encodeLeaf ts) small ts us firstWord [] (leaf-rest count (encodeLeaf ts) ts [] w (sym (append-nil (encodeLeaf ts))))
     (leaf-rest count (encodeLeaf ts) us [] v (e ∙ sym (append-nil (encodeLeaf us))))
+
+-- a leaf has one content
+pub same-terms : (columns : ℕ) (leaf : List ℕ) (ts us : List Term) → length leaf ≤ maxIndexBytes → LeafIs columns leaf ts → LeafIs columns leaf us → ts ≡ us
+same-terms columns leaf ts us h l m =
+    leaf-unique columns ts us (omega (arith, ap length (l .bytes))) (l .good) (m .good) (sym (l .bytes) ∙ m .bytes)

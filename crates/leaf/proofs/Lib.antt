@@ -1,5 +1,6 @@
-pub mod General
+-- The laws of this crate, in the order in which they build on each other.
 pub mod Words
+pub mod Orders
 pub mod Heads
 pub mod Rest
 pub mod Walking

@@ -1,17 +1,18 @@
 -- In terms whose words rise no word stands twice, so a word has at most one posting list (`list-once`).
-use Prim.Native.Nat.{ℕ, _+_, _≤_}
+use Prim.Native.Nat.{ℕ, _+_}
 use native.Mathlib.Omega.{arith}
 use mathlib.Core.Path.{_≡_, sym, ap, ap₂, _∙_, subst}
 use mathlib.Core.Logic.{_⊎_, inl, inr, ⊎-elim}
 use mathlib.Core.List.{List, [], _∷_, _++_}
-use lib.ListN.{length, drop, length-drop}
+use lib.ListN.{length, drop}
 use Rattle.common.specs.Bytes.{part}
+use Rattle.common.proofs.Parts.{part-here}
+use Rattle.common.proofs.Lists.{head-same, tail-same, place-once}
 use Rattle.doclist.specs.Doclist as doclist
 use Rattle.leaf.specs.Leaf.{Term, Before, GoodTerm, Terms, WellFormed, encodeTerms, encodeLeaf, ListIs, NoTerm}
-use Rattle.leaf.proofs.General.{part-here}
 use Rattle.leaf.proofs.Words.{before-irrefl, before-trans}
 
--- a word that is not after `before` is none of the words behind it
+-- a word that is not after `before` is none of the words after it
 pub not-later : (count : ℕ) (before : List ℕ) (ts : List Term) (word : List ℕ) → Terms count before ts → (word ≡ before) ⊎ Before word before → NoTerm ts word
 not-later count before [] word g h = tt
 not-later count before (t ∷ ts) word g h = (
@@ -45,30 +46,20 @@ stands-not (b ∷ before) t after word e n = stands-not before t after word e (n
 pub list-not-none : {ts : List Term} {word : List ℕ} {start size : ℕ} → ListIs ts word start size → NoTerm ts word → ⊥
 list-not-none {word = word} l n = stands-not (l .before) (l .term) (l .after) word (l .same-word) (subst (λ ts. NoTerm ts word) (l .stands) n)
 
-head-same : (t u : Term) (ts us : List Term) → t ∷ ts ≡ u ∷ us → t ≡ u
-head-same t u ts us e = cc
-
-tail-same : (t u : Term) (ts us : List Term) → t ∷ ts ≡ u ∷ us → ts ≡ us
-tail-same t u ts us e = cc
-
 -- where a word stands, in two readings, the terms from there on are the same
 from-once : (count : ℕ) (w : List ℕ) (b c : List Term) (t u : Term) (a d : List Term) (word : List ℕ) → Terms count w (b ++ (t ∷ a))
     → b ++ (t ∷ a) ≡ c ++ (u ∷ d) → t .word ≡ word → u .word ≡ word → t ∷ a ≡ u ∷ d
 from-once count w [] [] t u a d word g e h k = e
 from-once count w [] (v ∷ c) t u a d word g e h k =
-    let p = head-same t v a (c ++ (u ∷ d)) e in
+    let p = head-same e in
     let n = not-later count (t .word) a word (g .2) (inl (sym h)) in
-    absurd (stands-not c u d word k (subst (λ (l : List Term). NoTerm l word) (tail-same t v a (c ++ (u ∷ d)) e) n))
+    absurd (stands-not c u d word k (subst (λ (l : List Term). NoTerm l word) (tail-same e) n))
 from-once count w (v ∷ b) [] t u a d word g e h k =
-    let p = head-same v u (b ++ (t ∷ a)) d e in
+    let p = head-same e in
     let n = not-later count (v .word) (b ++ (t ∷ a)) word (g .2) (inl (sym (ap (λ (x : Term). x .word) p ∙ k))) in
     absurd (stands-not b t a word h n)
 from-once count w (v ∷ b) (x ∷ c) t u a d word g e h k =
-    from-once count (v .word) b c t u a d word (g .2) (tail-same v x (b ++ (t ∷ a)) (c ++ (u ∷ d)) e) h k
-
--- a list's place from what stands there
-place-once : (s x y : List ℕ) (i j : ℕ) → i ≤ length s → j ≤ length s → drop i s ≡ x → drop j s ≡ y → length x ≡ length y → i ≡ j
-place-once s x y i j h k p q e = omega (arith, simp length-drop at (ap length p), simp length-drop at (ap length q))
+    from-once count (v .word) b c t u a d word (g .2) (tail-same e) h k
 
 module _ (count : ℕ) {ts : List Term} {word : List ℕ} {start size other bytes : ℕ} (w : WellFormed count ts) (l : ListIs ts word start size) (m : ListIs ts word other bytes) where
   same-from : l .term ∷ l .after ≡ m .term ∷ m .after
@@ -77,11 +68,11 @@ module _ (count : ℕ) {ts : List Term} {word : List ℕ} {start size other byte
       (subst (Terms count []) (l .stands) (w .terms)) (sym (l .stands) ∙ m .stands) (l .same-word) (m .same-word)
 
   pub term-once : l .term ≡ m .term
-  term-once = head-same (l .term) (m .term) (l .after) (m .after) same-from
+  term-once = head-same same-from
 
   pub list-once : (start ≡ other) × (size ≡ bytes)
   list-once =
-      let q = tail-same (l .term) (m .term) (l .after) (m .after) same-from in
+      let q = tail-same same-from in
       let n : doclist.encodeList (l .term .entries) ≡ doclist.encodeList (m .term .entries) = ap (λ (t : Term). doclist.encodeList (t .entries)) term-once in
       let r : encodeTerms (l .term .word) (l .after) ≡ encodeTerms (m .term .word) (m .after) = ap₂ (λ (t : Term) (ts : List Term). encodeTerms (t .word) ts) term-once q in (
         place-once (encodeLeaf ts) _ _ start other (omega (arith, l .inside)) (omega (arith, m .inside)) (l .bytes) (m .bytes)

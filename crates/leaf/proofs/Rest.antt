@@ -1,5 +1,5 @@
 -- How a walk over stored terms meets them one by one (`head-complete`): where the terms `t ∷ ts` are stored from a
--- place on, behind the word `before`, that place gives `t`, and from the place after it on `ts` are stored behind the
+-- place on, after the word `before`, that place gives `t`, and from the place after it on `ts` are stored after the
 -- word of `t`. The first word's place is covered too.
 use Prim.Native.Nat.{ℕ, _+_, _-_, _^_, _≤_, _<_}
 use native.Mathlib.Omega.{arith}
@@ -7,17 +7,17 @@ use mathlib.Core.Path.{_≡_, refl, sym, ap, _∙_}
 use mathlib.Core.Bool.{true}
 use mathlib.Core.List.{List, [], _∷_, _++_, append-assoc}
 use lib.ListN.{length, getD, take, drop, length-drop}
-use lib.Seq.{getD-take, getD-drop}
 use borrow.Author.Tests.{ne-eqb}
 use Rattle.common.specs.Bytes.{part}
 use Rattle.common.proofs.Lists.{drop-past}
+use Rattle.common.proofs.Parts.{part-here, part-byte}
+use Rattle.common.specs.Bounds.{maxWord}
 use Rattle.varint.specs.Varint.{encodeIn}
 use Rattle.doclist.specs.Doclist.{encodeList}
-use Rattle.leaf.specs.Leaf.{Term, WellFormed, maxWord, shared, encodeTerms, encodeLeaf}
+use Rattle.leaf.specs.Leaf.{Term, WellFormed, shared, encodeTerms, encodeLeaf}
 use Rattle.leaf.specs.Reading.{firstWord, headAt, joinsOf}
 use Rattle.leaf.specs.Rest.{restBytes, RestIs}
 use Rattle.leaf.specs.declared.Head.the-variants.{Found, Refused}
-use Rattle.leaf.proofs.General.{part-here}
 use Rattle.leaf.proofs.Words.{is-joins, parted}
 use Rattle.leaf.proofs.Heads.{found-prefix, found-from, found-size, found-list, found-next, not-found, head-sound, HeadHere, head-found}
 
@@ -45,20 +45,6 @@ leaf-rest count s [] tail w e = absurd (omega (arith, w .some))
 leaf-rest count s (t ∷ ts) tail w e = record { bytes = ap (drop 1) e; good = w .terms; inside = rw e (omega arith); first = λ _. refl }
 
 module _ (count : ℕ) (s : List ℕ) (small : length s < 2 ^ 63) where
-  -- the byte that follows what a word shares
-  next-byte : (word : List ℕ) (p from : ℕ) → p < length word → part s from (from + length (drop p word)) ≡ drop p word → getD s from 0 ≡ getD word p 0
-  next-byte word p from h e =
-      let n : ℕ = from + length (drop p word) - from in
-      let hn : 0 < n = omega (arith, length-drop p word) in
-      let a : from ≡ from + 0 = omega arith in
-      let b : p + 0 ≡ p = omega arith in
-      ap (λ (j : ℕ). getD s j 0) a
-      ∙ sym (getD-drop from s 0 0)
-      ∙ sym (getD-take n (drop from s) 0 0 hn)
-      ∙ ap (λ (x : List ℕ). getD x 0 0) e
-      ∙ getD-drop p word 0 0
-      ∙ ap (λ (j : ℕ). getD word j 0) b
-
   module _ {at : ℕ} {before : List ℕ} {t : Term} {ts : List Term} {tail : List ℕ} (r : RestIs count s at before (t ∷ ts) tail) where
     here : HeadHere s at (shared before (t .word)) (drop (shared before (t .word)) (t .word)) (encodeList (t .entries)) (encodeTerms (t .word) ts ++ tail)
     here =
@@ -83,7 +69,7 @@ module _ (count : ℕ) (s : List ℕ) (small : length s < 2 ^ 63) where
         let w = parted before word (r .good .0) in
         let h = here in
         let k = head-sound s at (h .found) in
-        let nb = next-byte word p (h .from) (w .some) (h .suffix-here) in
+        let nb = part-byte s word p (h .from) (w .some) (h .suffix-here) in
         let lt : h .next ≡ firstWord → ⊥ = λ i. omega (arith, k .after, k .inside, k .ends) in
         record {
           shares = refl;

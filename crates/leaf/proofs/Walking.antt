@@ -6,12 +6,15 @@ use mathlib.Core.Path.{_≡_, refl, sym, ap, ap₂, _∙_, subst}
 use mathlib.Core.Bool.{true, false}
 use mathlib.Core.List.{List, [], _∷_, _++_, append-assoc}
 use lib.ListN.{length, getD, take, drop, length-append}
-use lib.Seq.{paste, take-paste, length-paste, take-take, take-length}
+use lib.Seq.{paste}
 use lib.Dec.{ltb}
 use borrow.Author.Tests.{lt-ltb, le-ltb, eq-eqb}
 use Rattle.common.specs.Pick.{pick}
 use Rattle.common.specs.Bytes.{part}
 use Rattle.common.proofs.Cases.{pick-case}
+use Rattle.common.proofs.Lists.{length-take-most}
+use Rattle.common.proofs.Parts.{part-length, part-first}
+use Rattle.common.proofs.Rooms.{paste-front}
 use Rattle.varint.specs.Varint.{readAt}
 use Rattle.varint.specs.declared.Varint.the-variants as varint
 use Rattle.doclist.specs.Doclist as doclist
@@ -24,7 +27,6 @@ use Rattle.leaf.specs.Reading.{onList, firstWord, headAt, joinsOf, walkF
 use Rattle.leaf.specs.Rest.{prefixNumber, restBytes, RestIs}
 use Rattle.leaf.specs.declared.Head.the-variants.{Found, Refused}
 use Rattle.leaf.specs.declared.Sound.{Sound}
-use Rattle.leaf.proofs.General.{length-take-most, part-length, part-first}
 use Rattle.leaf.proofs.Words.{joins-is, joins-le, Joined, joined}
 use Rattle.leaf.proofs.Heads.{head-case, HeadIs, head-sound}
 use Rattle.leaf.proofs.Rest.{rest-later, Meets, head-there, head-complete}
@@ -142,7 +144,7 @@ module _ (count : ℕ) (s : List ℕ) where
 -- ---- what is stored is passed
 
 module _ (count : ℕ) (s : List ℕ) (small : length s < 2 ^ 63) where
-  -- the walk from `at` on comes past the terms `ts` to what is behind them
+  -- the walk from `at` on comes past the terms `ts` to what is after them
   pub record Passed (k at : ℕ) (before : List ℕ) (words : ℕ) (ts : List Term) (tail : List ℕ) : Type 0 where
     pub fuel : ℕ
     pub next : ℕ
@@ -204,19 +206,6 @@ pub walking-start : (count : ℕ) (s : List ℕ) (height first : ℕ) → readAt
 walking-start count s height first e z =
     record { fuel = length s; enough = omega arith; goes-on = simp (e, eq-eqb _ _ z); few = omega arith }
 
--- a word after its suffix was put behind the shared prefix
-put-word : (w d suffix : List ℕ) (p n len : ℕ) → w ≡ paste d p suffix (length suffix) → length suffix ≡ n → p ≤ len → len ≤ length d
-    → take p (take len d) ++ suffix ≡ take (p + n) w
-put-word w d suffix p n len e en h k =
-    sym
-    (ap (λ (m : ℕ). take (p + m) w) (sym en)
-    ∙ ap (take (p + length suffix)) e
-    ∙ take-paste d p suffix (length suffix) (omega arith) (omega arith)
-    ∙ ap₂ (λ (a b : List ℕ). a ++ b) (sym (take-take p len d h)) (take-length suffix))
-
-pub put-length : (w d suffix : List ℕ) (p : ℕ) → w ≡ paste d p suffix (length suffix) → p + length suffix ≤ length d → length w ≡ length d
-put-length w d suffix p e h = ap length e ∙ length-paste d p suffix (length suffix) h (omega arith)
-
 pub walking-more : {count : ℕ} {s : List ℕ} {i : ℕ} (len : ℕ) (d : List ℕ) {words p f n l x : ℕ} (w : List ℕ) → Walking count s i (take len d) words → len ≤ length d
     → i < length s → headAt s i ≡ Found p f n l x → joinsOf (take len d) p (getD s f 0) ≡ true → checkOf count (part s l x) ≡ list-check.Accepted
     → w ≡ paste d p (part s f (f + n)) (length (part s f (f + n))) → Walking count s x (take (p + n) w) (words + 1)
@@ -228,6 +217,6 @@ walking-more {count} {s} {i} len d {words} {p} {f} {n} {l} {x} w g ld h e j a q 
     record {
       fuel = m .0;
       enough = m .1;
-      goes-on = g .goes-on ∙ ap frontOf (m .2 ∙ ap (λ (b : List ℕ). walkFrom (m .0) count s x b (words + 1)) (put-word w d (part s f (f + n)) p n len q ls pl ld));
+      goes-on = g .goes-on ∙ ap frontOf (m .2 ∙ ap (λ (b : List ℕ). walkFrom (m .0) count s x b (words + 1)) (paste-front w d (part s f (f + n)) p n len q ls pl (omega arith)));
       few = omega (arith, g .few, t .after, t .inside, t .ends);
     }

@@ -1,16 +1,17 @@
 -- A word that follows another: the bytes that they share, and the first that differs.
-use Prim.Native.Nat.{ℕ, zero, suc, _≤_, _<_}
+use Prim.Native.Nat.{ℕ, zero, suc, _+_, _≤_, _<_}
 use native.Mathlib.Omega.{arith}
 use mathlib.Core.Path.{_≡_, refl, sym, ap, ap₂, _∙_, subst}
 use mathlib.Core.Bool.{Bool, true}
 use mathlib.Core.Logic.{_⊎_, inl, inr, ⊎-elim}
 use mathlib.Core.List.{List, [], _∷_, _++_}
 use lib.ListN.{length, getD, take, drop}
+use lib.Seq.{paste}
 use lib.Dec.{ltb}
-use borrow.Author.Tests.{lt-ltb, le-ltb, eq-eqb, ne-eqb, ltb-true, eqb-true}
+use borrow.Author.Tests.{le-leb, lt-leb, lt-ltb, le-ltb, eq-eqb, ne-eqb, ltb-true, eqb-true}
 use Rattle.common.proofs.Cases.{pick-case, split, same-or}
 use Rattle.leaf.specs.Leaf.{Before, shared}
-use Rattle.leaf.specs.Reading.{joinsOf}
+use Rattle.leaf.specs.Reading.{joinsOf, withSuffix}
 
 -- `before` ends at `p`, or has a smaller byte than `b` there
 abbrev pub Joins : List ℕ → ℕ → ℕ → Type 0
@@ -124,3 +125,24 @@ before-case (a ∷ v) (b ∷ w) f g k =
     same-or a b
     (λ e. before-case v w (λ h. f (inr (e, h))) (λ h. g (ap₂ _∷_ e h)) (λ h. k (inr (sym e, h))))
     (λ n. k (inl (omega arith))))
+
+-- every word with a byte comes after the empty one
+pub before-some : (w : List ℕ) → 0 < length w → Before [] w
+before-some [] h = absurd (omega arith)
+before-some (b ∷ w) h = tt
+
+pub shared-most : (v w : List ℕ) → shared v w ≤ length w
+shared-most [] w = omega arith
+shared-most (a ∷ v) [] = omega arith
+shared-most (a ∷ v) (b ∷ w) =
+    same-or a b
+    (λ e. let k = shared-most v w in simp (eq-eqb a b e) (omega arith))
+    (λ n. simp (ne-eqb a b n) (omega arith))
+
+-- ---- a suffix in a word's room
+
+pub suffix-fits : (word suffix : List ℕ) (p : ℕ) → p + length suffix ≤ length word → withSuffix word p suffix ≡ paste word p suffix (length suffix)
+suffix-fits word suffix p h = rw (le-leb (p + length suffix) (length word) h) refl
+
+pub suffix-over : (word suffix : List ℕ) (p : ℕ) → length word < p + length suffix → withSuffix word p suffix ≡ word
+suffix-over word suffix p h = rw (lt-leb (p + length suffix) (length word) h) refl

@@ -6,15 +6,11 @@ use lib.Dec.{leb}
 use Rattle.common.specs.Pick.{pick, both}
 use Rattle.common.specs.Bytes.{within}
 use Rattle.common.specs.Refusals.{Numbers, numbers, Refusal, FirstDue, shapeRefusal}
-use Rattle.doclist.specs.Doclist.{maxColumns}
+use Rattle.common.specs.Bounds.{maxColumns, maxIndexBytes}
 use Rattle.leaf.specs.Leaf.{IsLeaf, NoLeaf}
 use Rattle.leaf.specs.Reading.{isLeaf}
 use Rattle.leaf.specs.declared.LeafCheck.{LeafCheck}
 use Rattle.leaf.specs.declared.LeafCheck.the-variants.{Accepted, Shape, Broken}
-
--- all leaves together
-abbrev pub maxLeaves : ℕ
-maxLeaves = 65536
 
 -- ---- checking one leaf
 
@@ -27,7 +23,7 @@ checkNumbers Broken = numbers 3 0
 pub record CheckShape (columns : ℕ) (leaf : List ℕ) : Type 0 where
   pub some : 1 ≤ columns
   pub few : columns ≤ maxColumns
-  pub size : length leaf ≤ maxLeaves
+  pub size : length leaf ≤ maxIndexBytes
 
 -- 3: a leaf breaks a rule; beside it stands the leaf's number
 abbrev pub leafRefusal : ℕ → ℕ → List ℕ → Refusal
@@ -48,4 +44,4 @@ CheckIs columns leaf r = FirstDue (checkRefusals columns leaf) (numbers 0 0) (ch
 
 -- the answer, as the check comes to it
 abbrev pub checkLeaf : ℕ → List ℕ → LeafCheck
-checkLeaf columns leaf = pick (both (within 1 maxColumns columns) (leb (length leaf) maxLeaves)) (pick (isLeaf columns leaf) Accepted Broken) Shape
+checkLeaf columns leaf = pick (both (within 1 maxColumns columns) (leb (length leaf) maxIndexBytes)) (pick (isLeaf columns leaf) Accepted Broken) Shape

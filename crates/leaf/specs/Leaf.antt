@@ -5,10 +5,12 @@
 use Prim.Native.Nat.{ℕ, suc, _+_, _≤_, _<_}
 use mathlib.Core.Path.{_≡_}
 use mathlib.Core.Logic.{_⊎_}
+use mathlib.Core.Bool.{Bool, true, false}
 use mathlib.Core.List.{List, [], _∷_, _++_}
 use lib.ListN.{length, take, drop}
-use lib.Dec.{eqb}
-use Rattle.common.specs.Pick.{pick}
+use lib.Dec.{eqb, ltb}
+use Rattle.common.specs.Pick.{pick, both, either}
+use Rattle.common.specs.Bounds.{maxWord}
 use Rattle.varint.specs.Varint.{encode}
 use Rattle.doclist.specs.Doclist as doclist
 
@@ -28,9 +30,12 @@ Before [] (b ∷ w) = Unit {0}
 Before (a ∷ v) [] = ⊥
 Before (a ∷ v) (b ∷ w) = (a < b) ⊎ ((a ≡ b) × Before v w)
 
--- document 01's bound on a word
-abbrev pub maxWord : ℕ
-maxWord = 64
+-- the test of `Before`
+abbrev pub isBefore : List ℕ → List ℕ → Bool
+isBefore [] [] = false
+isBefore [] (b ∷ w) = true
+isBefore (a ∷ v) [] = false
+isBefore (a ∷ v) (b ∷ w) = either (ltb a b) (both (eqb a b) (isBefore v w))
 
 pub record GoodTerm (count : ℕ) (t : Term) : Type 0 where
   pub some : 0 < length (t .word)
@@ -55,15 +60,15 @@ shared [] w = 0
 shared (a ∷ v) [] = 0
 shared (a ∷ v) (b ∷ w) = pick (eqb a b) (suc (shared v w)) 0
 
--- bytes behind their length
+-- bytes after their length
 abbrev pub sized : List ℕ → List ℕ
 sized s = encode (length s) ++ s
 
--- a suffix and a posting list, each behind its length
+-- a suffix and a posting list, each after its length
 abbrev pub termBytes : List ℕ → List doclist.Entry → List ℕ
 termBytes suffix es = sized suffix ++ sized (doclist.encodeList es)
 
--- the words behind `before`
+-- the words after `before`
 abbrev pub encodeTerms : List ℕ → List Term → List ℕ
 encodeTerms before [] = []
 encodeTerms before (t ∷ ts) =

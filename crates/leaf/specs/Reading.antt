@@ -4,14 +4,15 @@ use Prim.Native.Nat.{ℕ, zero, suc, _+_, _-_}
 use mathlib.Core.Bool.{Bool}
 use mathlib.Core.List.{List, [], _++_}
 use lib.ListN.{length, getD, take}
-use lib.Dec.{ltb, eqb}
+use lib.Seq.{paste}
+use lib.Dec.{ltb, leb, eqb}
 use Rattle.common.specs.Pick.{pick, both}
 use Rattle.common.specs.Bytes.{part}
+use Rattle.common.specs.Bounds.{maxWord}
 use Rattle.varint.specs.Varint.{readAt, onVarint}
 use Rattle.doclist.specs.Checking as doclist
 use Rattle.doclist.specs.declared.ListCheck.{ListCheck}
 use Rattle.doclist.specs.declared.ListCheck.the-variants as list-check
-use Rattle.leaf.specs.Leaf.{maxWord}
 use Rattle.leaf.specs.declared.Head.{Head}
 use Rattle.leaf.specs.declared.Head.the-variants.{Found, Refused}
 use Rattle.leaf.specs.declared.Sound.{Sound}
@@ -40,12 +41,16 @@ suffixAt s prefix at =
     (pick (ltb (maxWord - size) prefix) Refused
     (pick (ltb (length s - from) size) Refused (listAt s prefix from size (from + size))))))
 
--- the first word stands behind the height, which takes one byte; it has no prefix
+-- the first word stands after the height, which takes one byte; it has no prefix
 abbrev pub firstWord : ℕ
 firstWord = 1
 
 abbrev pub headAt : List ℕ → ℕ → Head
 headAt s at = pick (eqb at firstWord) (suffixAt s 0 at) (onVarint Refused (readAt s at) (λ prefix next. pick (ltb maxWord prefix) Refused (suffixAt s prefix next)))
+
+-- a word's room once a suffix was put after its first `p` bytes; where it does not fit the room stays
+abbrev pub withSuffix : List ℕ → ℕ → List ℕ → List ℕ
+withSuffix word p suffix = pick (leb (p + length suffix) (length word)) (paste word p suffix (length suffix)) word
 
 -- a word that shares `p` bytes with `before` and goes on with `b` is a later word, and shares no more
 abbrev pub joinsOf : List ℕ → ℕ → ℕ → Bool
@@ -66,15 +71,15 @@ walkFrom (suc most) count s i before words =
     (record { words = words; end = i })
 
 -- with no sound word the front is empty
-abbrev pub noFront : Sound
-noFront = record { words = 0; end = 0 }
+abbrev pub noSound : Sound
+noSound = record { words = 0; end = 0 }
 
 abbrev pub frontOf : Sound → Sound
-frontOf r = pick (eqb (r .words) 0) noFront r
+frontOf r = pick (eqb (r .words) 0) noSound r
 
 abbrev pub walkOf : ℕ → List ℕ → Sound
 walkOf count s =
-    onVarint noFront (readAt s 0) (λ height first. pick (eqb height 0) (frontOf (walkFrom (length s) count s first [] 0)) noFront)
+    onVarint noSound (readAt s 0) (λ height first. pick (eqb height 0) (frontOf (walkFrom (length s) count s first [] 0)) noSound)
 
 -- the walk came to the end, with at least one word
 abbrev pub isLeaf : ℕ → List ℕ → Bool

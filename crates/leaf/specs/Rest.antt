@@ -1,4 +1,4 @@
--- The terms that are stored from a place on, behind a word: what a walk over a leaf has still before it.
+-- The terms that are stored from a place on, after a word: what a walk over a leaf has still before it.
 use Prim.Native.Nat.{ℕ, _≤_}
 use mathlib.Core.Path.{_≡_}
 use mathlib.Core.List.{List, [], _∷_, _++_}
@@ -13,14 +13,14 @@ use Rattle.leaf.specs.Reading.{firstWord}
 abbrev pub prefixNumber : ℕ → ℕ → List ℕ
 prefixNumber at p = pick (eqb at firstWord) [] (encode p)
 
--- the bytes of terms from the place `at` on, behind the word `before`
+-- the bytes of terms from the place `at` on, after the word `before`
 abbrev pub restBytes : ℕ → List ℕ → List Term → List ℕ
 restBytes at before [] = []
 restBytes at before (t ∷ ts) =
     prefixNumber at (shared before (t .word))
     ++ (termBytes (drop (shared before (t .word)) (t .word)) (t .entries) ++ encodeTerms (t .word) ts)
 
--- good terms `ts` are stored in `s` from `at` on, behind the word `before`; then comes `tail`, which is empty in a leaf
+-- good terms `ts` are stored in `s` from `at` on, after the word `before`; then comes `tail`, which is empty in a leaf
 pub record RestIs (count : ℕ) (s : List ℕ) (at : ℕ) (before : List ℕ) (ts : List Term) (tail : List ℕ) : Type 0 where
   pub bytes : drop at s ≡ restBytes at before ts ++ tail
   pub good : Terms count before ts

@@ -12,21 +12,12 @@ ghost use mathlib.Core.Logic.{_↔_};
 ghost use Prim.Native.Nat.{_+_, _≤_};
 ghost use lib.ListN.{length, take};
 ghost use lib.Seq.{paste};
-ghost use Rattle.leaf.specs.Leaf.{SoundFront};
-ghost use Rattle.leaf.specs.Reading.{listAt, suffixAt, headAt, joinsOf, frontOf, walkOf};
+ghost use Rattle.leaf.specs.Leaf.{SoundFront, isBefore};
+ghost use Rattle.leaf.specs.Reading.{listAt, suffixAt, headAt, joinsOf, withSuffix, frontOf, walkOf};
 ghost use Rattle.leaf.specs.Answers.{CheckIs, checkLeaf};
 
-// All leaves together have at most 65,536 bytes.
-pub const MAX_LEAVES: usize = 65536;
-
-// A word has 1 to 64 bytes.
-pub const MAX_WORD: usize = 64;
-
-// The first word stands behind the height.
+// The first word stands after the height.
 pub const FIRST_WORD: usize = 1;
-
-// A table has 1 to 16 columns.
-pub const MAX_COLUMNS: u32 = 16;
 
 // What stands at a word's place.
 pub enum Head {
@@ -89,11 +80,11 @@ fn suffix_at(s: &[u8], prefix: usize, at: usize) -> Head
     if value == 0 {
         return Head::Refused;
     }
-    if (MAX_WORD as u64) < value {
+    if (common::MAX_WORD as u64) < value {
         return Head::Refused;
     }
     let size = value as usize;
-    if MAX_WORD - size < prefix {
+    if common::MAX_WORD - size < prefix {
         return Head::Refused;
     }
     if s.len() - from < size {
@@ -112,7 +103,7 @@ pub fn head_at(s: &[u8], at: usize) -> Head
     let Varint::Value { value, next } = varint::read(s, at) else {
         return Head::Refused;
     };
-    if (MAX_WORD as u64) < value {
+    if (common::MAX_WORD as u64) < value {
         return Head::Refused;
     }
     suffix_at(s, value as usize, next)
@@ -129,11 +120,36 @@ fn joins(word: &[u8; 64], len: usize, p: usize, b: u8) -> bool
     p == len
 }
 
-// Puts a suffix behind the first `p` bytes of a word.
-fn put(word: &mut [u8; 64], p: usize, suffix: &[u8])
-    requires { ⌜ (p + length (now suffix) ≤ 64) × (length (now word) ≡ 64) ⌝ }
-    ensures { λ _. ⌜ now (word .exit) ≡ paste (now (word .entry)) p (now (suffix .entry)) (length (now (suffix .entry))) ⌝ }
+// Whether a word comes before another by byte comparison; a proper prefix comes first.
+pub fn is_before(a: &[u8], b: &[u8]) -> bool
+    ensures { λ r. ⌜ r ≡ isBefore (now (a .entry)) (now (b .entry)) ⌝ }
 {
+    let mut i: usize = 0;
+    while i < a.len() {
+        if b.len() <= i {
+            return false;
+        }
+        if a[i] < b[i] {
+            return true;
+        }
+        if b[i] < a[i] {
+            return false;
+        }
+        i += 1;
+    }
+    i < b.len()
+}
+
+// Puts a suffix after the first `p` bytes of a word's room. Where it does not fit, the room stays as it is.
+pub fn put_suffix(word: &mut [u8], p: usize, suffix: &[u8])
+    ensures { λ _. ⌜ now (word .exit) ≡ withSuffix (now (word .entry)) p (now (suffix .entry)) ⌝ }
+{
+    if word.len() < suffix.len() {
+        return;
+    }
+    if word.len() - suffix.len() < p {
+        return;
+    }
     let mut j = 0;
     while j < suffix.len() {
         word[p + j] = suffix[j];
@@ -188,7 +204,7 @@ pub fn walk(s: &[u8], columns: u64) -> Sound
             return front(Sound { words, end: i });
         };
         let to = from + size;
-        put(&mut word, prefix, &s[from..to]);
+        put_suffix(&mut word, prefix, &s[from..to]);
         len = prefix + size;
         words += 1;
         i = next;
@@ -204,10 +220,10 @@ pub fn check(leaf: &[u8], columns: u32) -> LeafCheck
     if columns == 0 {
         return LeafCheck::Shape;
     }
-    if MAX_COLUMNS < columns {
+    if (common::MAX_COLUMNS as u32) < columns {
         return LeafCheck::Shape;
     }
-    if MAX_LEAVES < leaf.len() {
+    if common::MAX_INDEX_BYTES < leaf.len() {
         return LeafCheck::Shape;
     }
     let sound = walk(leaf, columns as u64);

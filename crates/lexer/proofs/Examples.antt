@@ -9,20 +9,20 @@ use Rattle.tokenizer.specs.Word.{isWord, isSeparator, fold, wordStart, wordEnd,
 use Rattle.offsets.specs.Names.{columnFrom}
 use Rattle.lexer.specs.Token.{anyColumn, onlyColumn, written, NEAR, operand}
 use Rattle.lexer.specs.Tokens.{isSpace, isRunByte, isInner, each, decimalFrom, oneWord}
-use Rattle.lexer.specs.Lexing.{isStem, isNearWritten, columnRun, operatorOf, wordNext, runNext, quoteNext, nextOf, Lexing, tokens, refused, lexIn, lexOf}
+use Rattle.lexer.specs.Lexing.{isStem, isNearWritten, columnRun, operatorOf, wordNext, runNext, quoteNext, nextToken, Lexing, tokens, refused, lexIn, lexOf}
 
-record Example : Type 0 where
+record TokenExample : Type 0 where
   query : List ℕ
   reading : Lexing
 
 abbrev names : List (List ℕ)
 names = (110 ∷ 111 ∷ 100 ∷ 101 ∷ []) ∷ (115 ∷ 101 ∷ 110 ∷ 116 ∷ []) ∷ []
 
-abbrev ReadSo : List Example → Type 0
+abbrev ReadSo : List TokenExample → Type 0
 ReadSo [] = Unit {0}
 ReadSo (e ∷ es) = (lexOf names (e .query) ≡ e .reading) × ReadSo es
 
-abbrev examples : List Example
+abbrev examples : List TokenExample
 examples =
     -- `near`
     record { query = 110 ∷ 101 ∷ 97 ∷ 114 ∷ []; reading = tokens (oneWord (110 ∷ 101 ∷ 97 ∷ 114 ∷ []) false anyColumn ∷ []) } ∷
@@ -56,5 +56,5 @@ examples =
     record { query = 34 ∷ 97 ∷ []; reading = refused } ∷ []
 
 all-read : ReadSo examples
-unfolding span same isWord isSeparator fold wordStart wordEnd placesIn columnFrom isSpace isRunByte isInner each decimalFrom isStem isNearWritten columnRun operatorOf wordNext runNext quoteNext nextOf lexIn
+unfolding span same isWord isSeparator fold wordStart wordEnd placesIn columnFrom isSpace isRunByte isInner each decimalFrom isStem isNearWritten columnRun operatorOf wordNext runNext quoteNext nextToken lexIn
 all-read = (refl, (refl, (refl, (refl, (refl, (refl, (refl, (refl, (refl, (refl, (refl, (refl, (refl, (refl, (refl, tt)))))))))))))))

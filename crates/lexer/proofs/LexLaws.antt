@@ -1,4 +1,4 @@
--- The lexer's loop: behind some tokens the state holds them, and what is still to be read is the rest.
+-- The lexer's loop: after some tokens the state holds them, and what is still to be read is the rest.
 use Prim.Native.Nat.{ℕ, suc, _+_, _-_, _≤_, _<_}
 use native.Mathlib.Omega.{arith}
 use mathlib.Core.Path.{_≡_, refl, sym, ap, subst, fun-ext, _∙_}
@@ -9,25 +9,26 @@ use lib.Seq.{append-snoc, drop-drop}
 use lib.Dec.{eqb, leb, ltb}
 use borrow.Author.Tests.{ltb-true, leb-true, le-leb}
 use Rattle.common.specs.Bytes.{span}
-use Rattle.common.proofs.Cases.{bool-case, pick-case, both-left, both-right, both-true}
+use Rattle.common.proofs.Cases.{bool-case, pick-case, both-left, both-right, both-true, either-false, true-not-false}
+use Rattle.common.proofs.Lists.{map-append}
 use Rattle.tokenizer.specs.Word.{places}
 use Rattle.lexer.specs.Token.{Token, lparen, rparen, kindOf, begins, tokenNodes, maxQuery, maxWords, tieNumber, tieDistance, padded, nodeBytes, packed}
 use Rattle.lexer.specs.Tokens.{openByte, closeByte, quoteByte, isSpace, isRunByte, isInner}
-use Rattle.lexer.specs.Lexing.{Next, done, blank, token, wrong, runNext, quoteNext, nextOf, Lexing, tokens, refused, prepend, andThen, lexIn, lexOf, wordSizes, isWithin, kindsOf, refusal, lexedOf}
-use Rattle.lexer.specs.Filling.{Entry, pushAll, tokenEntries, withToken, skipped, stopped, moved, started}
+use Rattle.lexer.specs.Lexing.{NextToken, done, blank, token, wrong, runNext, quoteNext, nextToken, Lexing, tokens, refused, prepend, andThen, lexIn, lexOf, wordSizes, isWithin, kindsOf, refusedLex, lexedOf}
+use Rattle.lexer.specs.Filling.{WordEntry, pushWords, tokenEntries, withToken, skipped, stopped, movedOn, started}
 use Rattle.lexer.specs.declared.State.{State}
 use Rattle.lexer.specs.declared.Words.{Words}
-use Rattle.lexer.proofs.General.{either-false, map-append, true-not-false}
 use Rattle.lexer.proofs.Stretches.{stretch-front}
 use Rattle.lexer.proofs.Runs.{RunIs, run-is}
 use Rattle.lexer.proofs.TokenLaws.{step-done, tokens-law}
-use Rattle.lexer.proofs.Packing.{set-padded, map-length, entryOf, sizeOf, shortSizes, all-packed, fitted}
-use Rattle.lexer.proofs.TokenNodes.{tieAfter, nodes-snoc, tie-snoc, token-entries, tokens-bytes}
+use Rattle.lexer.proofs.Nodes.{length-nodeMap}
+use Rattle.lexer.proofs.Packing.{set-padded, nodeEntry, sizeOf, shortSizes, all-packed, fitted}
+use Rattle.lexer.proofs.TokenNodes.{tieAt, nodes-snoc, tie-snoc, token-entries, tokens-bytes}
 use Rattle.lexer.proofs.Answers.{answer-refused, answer-past, answer-within}
 
 -- ---- what stands next takes some of the bytes
 
-abbrev Sized : List ℕ → Next → Type 0
+abbrev Sized : List ℕ → NextToken → Type 0
 Sized s done = s ≡ []
 Sized s blank = 0 < length s
 Sized s (token t n) = (0 < n) × (n ≤ length s)
@@ -48,7 +49,7 @@ run-sized names b s e = found (runNext names r) (run-is names r)
     r : List ℕ
     r = take (span isRunByte (b ∷ s)) (b ∷ s)
 
-    found : (x : Next) → RunIs names r x → Sized (b ∷ s) x
+    found : (x : NextToken) → RunIs names r x → Sized (b ∷ s) x
     found done i = absurd i
     found blank i = absurd i
     found (token t n) i =
@@ -57,8 +58,8 @@ run-sized names b s e = found (runNext names r) (run-is names r)
         (omega (arith, i .1), omega (arith, i .1))
     found wrong i = tt
 
-pub next-sized : (names : List (List ℕ)) (s : List ℕ) → Sized s (nextOf names s)
-unfolding nextOf isRunByte
+pub next-sized : (names : List (List ℕ)) (s : List ℕ) → Sized s (nextToken names s)
+unfolding nextToken isRunByte
 next-sized names [] = refl
 next-sized names (b ∷ s) =
     pick-case (Sized (b ∷ s)) (isSpace b) blank _ (λ _. omega arith)
@@ -67,22 +68,22 @@ next-sized names (b ∷ s) =
     (λ c. pick-case (Sized (b ∷ s)) (eqb b quoteByte) (quoteNext s) _ (λ _. quote-sized b s)
     (λ q. run-sized names b s (ap not (either-false (isSpace b) _ a (either-false (eqb b openByte) _ o (either-false (eqb b closeByte) _ c q))))))))
 
--- ---- the state behind some tokens
+-- ---- the state after some tokens
 
-abbrev pub stateOf : List Token → ℕ → State
-stateOf ts at =
+abbrev pub lexState : List Token → ℕ → State
+lexState ts at =
     record {
       ok = true;
       at = at;
       kinds = padded maxQuery (kindsOf ts);
       count = length ts;
-      words = pushAll (packed []) (map entryOf (tokenNodes begins ts));
-      tie = tieNumber (tieAfter begins ts);
-      distance = tieDistance (tieAfter begins ts);
+      words = pushWords (packed []) (map nodeEntry (tokenNodes begins ts));
+      tie = tieNumber (tieAt begins ts);
+      distance = tieDistance (tieAt begins ts);
     }
 
-push-append : (w : Words) (es fs : List Entry) → pushAll (pushAll w es) fs ≡ pushAll w (es ++ fs)
-unfolding pushAll
+push-append : (w : Words) (es fs : List WordEntry) → pushWords (pushWords w es) fs ≡ pushWords w (es ++ fs)
+unfolding pushWords
 push-append w [] fs = refl
 push-append w (e ∷ es) fs = push-append _ es fs
 
@@ -93,16 +94,16 @@ module _ (ts : List Token) (at : ℕ) (t : Token) (n : ℕ) (few : length ts < m
       ∙ set-padded maxQuery (kindsOf ts) (kindOf t) (rw (length-map ts kindOf) few)
       ∙ ap (padded maxQuery) (sym (map-append kindOf ts (t ∷ [])))
 
-  words-more : pushAll (stateOf ts at .words) (tokenEntries (tieNumber (tieAfter begins ts)) (tieDistance (tieAfter begins ts)) t) ≡ stateOf (ts ++ t ∷ []) at .words
+  words-more : pushWords (lexState ts at .words) (tokenEntries (tieNumber (tieAt begins ts)) (tieDistance (tieAt begins ts)) t) ≡ lexState (ts ++ t ∷ []) at .words
   words-more =
-      let here = tokenNodes (tieAfter begins ts) (t ∷ []) in
-      push-append (packed []) (map entryOf (tokenNodes begins ts)) _
-      ∙ ap (pushAll (packed []))
-      (ap (λ es. map entryOf (tokenNodes begins ts) ++ es) (token-entries (tieAfter begins ts) t)
-      ∙ sym (map-append entryOf (tokenNodes begins ts) here)
-      ∙ ap (map entryOf) (sym (nodes-snoc begins ts t)))
+      let here = tokenNodes (tieAt begins ts) (t ∷ []) in
+      push-append (packed []) (map nodeEntry (tokenNodes begins ts)) _
+      ∙ ap (pushWords (packed []))
+      (ap (λ es. map nodeEntry (tokenNodes begins ts) ++ es) (token-entries (tieAt begins ts) t)
+      ∙ sym (map-append nodeEntry (tokenNodes begins ts) here)
+      ∙ ap (map nodeEntry) (sym (nodes-snoc begins ts t)))
 
-  pub token-state : moved (stateOf ts at) (token t n) ≡ stateOf (ts ++ t ∷ []) (at + n)
+  pub token-state : movedOn (lexState ts at) (token t n) ≡ lexState (ts ++ t ∷ []) (at + n)
   unfolding withToken
   token-state =
       rw
@@ -111,10 +112,7 @@ module _ (ts : List Token) (at : ℕ) (t : Token) (n : ℕ) (few : length ts < m
 
 -- ---- the loop
 
-pub place-falls : (s : List ℕ) (at next : ℕ) → at < length s → at < next → length s - next < length s - at
-place-falls s at next h k = omega arith
-
--- tokens in front of what is read behind them
+-- tokens in front of what is read after them
 abbrev onward : List Token → Lexing → Lexing
 onward ts (tokens us) = tokens (ts ++ us)
 onward ts refused = refused
@@ -127,19 +125,19 @@ onward-none : (x : Lexing) → x ≡ onward [] x
 onward-none (tokens us) = refl
 onward-none refused = refl
 
--- the state stands behind tokens of the query, and enough steps are left for the rest
+-- the state stands after tokens of the query, and enough steps are left for the rest
 pub record Behind (names : List (List ℕ)) (s : List ℕ) (st : State) : Type 0 where
   pub passed : List Token
   pub steps : ℕ
-  pub state : st ≡ stateOf passed (st .at)
+  pub state : st ≡ lexState passed (st .at)
   pub few : length passed ≤ st .at
   pub inside : st .at ≤ length s
   pub enough : length s ≤ st .at + steps
   pub rest : lexOf names s ≡ onward passed (lexIn (suc steps) names (drop (st .at) s))
 
 module _ (names : List (List ℕ)) (s : List ℕ) where
-  started-state : started ≡ stateOf [] 0
-  unfolding pushAll
+  started-state : started ≡ lexState [] 0
+  unfolding pushWords
   started-state = refl
 
   pub behind-none : (st : State) → st ≡ started → Behind names s st
@@ -148,7 +146,7 @@ module _ (names : List (List ℕ)) (s : List ℕ) where
       record {
         passed = [];
         steps = length s;
-        state = e ∙ started-state ∙ ap (stateOf []) (sym a);
+        state = e ∙ started-state ∙ ap (lexState []) (sym a);
         few = omega arith;
         inside = omega arith;
         enough = omega arith;
@@ -156,7 +154,7 @@ module _ (names : List (List ℕ)) (s : List ℕ) where
       }
 
   -- one step of reading on
-  read-on : (k at : ℕ) (x : Next) → nextOf names (drop at s) ≡ x → lexIn (suc k) names (drop at s) ≡ andThen x (λ n. lexIn k names (drop (at + n) s))
+  read-on : (k at : ℕ) (x : NextToken) → nextToken names (drop at s) ≡ x → lexIn (suc k) names (drop at s) ≡ andThen x (λ n. lexIn k names (drop (at + n) s))
   unfolding lexIn
   read-on k at x e =
       ap (λ y. andThen y (λ n. lexIn k names (drop n (drop at s)))) e ∙ ap (andThen x) (fun-ext (λ n. ap (lexIn k names) (drop-drop n at s)))
@@ -166,10 +164,10 @@ module _ (names : List (List ℕ)) (s : List ℕ) where
     still-ok = ap (λ x. x .ok) (b .state)
 
     -- reading on from the state's place, with one step less
-    rest-on : (x : Next) → nextOf names (drop (st .at) s) ≡ x → lexOf names s ≡ onward (b .passed) (andThen x (λ n. lexIn (b .steps) names (drop (st .at + n) s)))
+    rest-on : (x : NextToken) → nextToken names (drop (st .at) s) ≡ x → lexOf names s ≡ onward (b .passed) (andThen x (λ n. lexIn (b .steps) names (drop (st .at + n) s)))
     rest-on x e = b .rest ∙ ap (onward (b .passed)) (read-on (b .steps) (st .at) x e)
 
-    pub behind-wrong : nextOf names (drop (st .at) s) ≡ wrong → lexOf names s ≡ refused
+    pub behind-wrong : nextToken names (drop (st .at) s) ≡ wrong → lexOf names s ≡ refused
     behind-wrong e = rest-on wrong e
 
     module _ (more : st .at < length s) where
@@ -181,7 +179,7 @@ module _ (names : List (List ℕ)) (s : List ℕ) where
       unfolding left
       one-less = let h = b .enough in omega arith
 
-      behind-blank : nextOf names (drop (st .at) s) ≡ blank → Behind names s (skipped st)
+      behind-blank : nextToken names (drop (st .at) s) ≡ blank → Behind names s (skipped st)
       unfolding skipped
       behind-blank e =
           let h = b .enough in
@@ -197,7 +195,7 @@ module _ (names : List (List ℕ)) (s : List ℕ) where
             rest = rest-on blank e ∙ ap (λ m. onward (b .passed) (lexIn m names (drop (st .at + 1) s))) one-less;
           }
 
-      behind-token : (t : Token) (n : ℕ) → length s ≤ maxQuery → 0 < n → n ≤ length (drop (st .at) s) → nextOf names (drop (st .at) s) ≡ token t n → Behind names s (moved st (token t n))
+      behind-token : (t : Token) (n : ℕ) → length s ≤ maxQuery → 0 < n → n ≤ length (drop (st .at) s) → nextToken names (drop (st .at) s) ≡ token t n → Behind names s (movedOn st (token t n))
       unfolding withToken
       behind-token t n size some fits e =
           let h = b .enough in
@@ -208,7 +206,7 @@ module _ (names : List (List ℕ)) (s : List ℕ) where
           record {
             passed = b .passed ++ t ∷ [];
             steps = left;
-            state = ap (λ x. moved x (token t n)) (b .state) ∙ token-state (b .passed) (st .at) t n (omega arith);
+            state = ap (λ x. movedOn x (token t n)) (b .state) ∙ token-state (b .passed) (st .at) t n (omega arith);
             few = omega arith;
             inside = omega arith;
             enough = omega arith;
@@ -223,7 +221,7 @@ module _ (names : List (List ℕ)) (s : List ℕ) where
       count-room size = omega (arith, ap (λ x. x .count) (b .state), b .few)
 
       -- what is left is not nothing
-      not-done : nextOf names (drop (st .at) s) ≡ done → ⊥
+      not-done : nextToken names (drop (st .at) s) ≡ done → ⊥
       not-done e =
           let n : drop (st .at) s ≡ [] = subst (Sized (drop (st .at) s)) e (next-sized names (drop (st .at) s)) in
           omega (arith, length-drop (st .at) s, ap length n)
@@ -232,7 +230,7 @@ module _ (names : List (List ℕ)) (s : List ℕ) where
       unfolding skipped
       skipped-further = omega arith
 
-      moved-further : (t : Token) (n : ℕ) → 0 < n → st .at < moved st (token t n) .at
+      moved-further : (t : Token) (n : ℕ) → 0 < n → st .at < movedOn st (token t n) .at
       unfolding withToken
       moved-further t n h = omega arith
 
@@ -244,12 +242,12 @@ module _ (names : List (List ℕ)) (s : List ℕ) where
       unfolding skipped
       skipped-ok = still-ok
 
-      moved-ok : (t : Token) (n : ℕ) → moved st (token t n) .ok ≡ true
+      moved-ok : (t : Token) (n : ℕ) → movedOn st (token t n) .ok ≡ true
       unfolding withToken
       moved-ok t n = still-ok
 
-      -- a state that is still right stands behind more
-      further : length s ≤ maxQuery → (x : Next) → nextOf names (drop (st .at) s) ≡ x → moved st x .ok ≡ true → Behind names s (moved st x) × (st .at < moved st x .at)
+      -- a state that is still right stands after more
+      further : length s ≤ maxQuery → (x : NextToken) → nextToken names (drop (st .at) s) ≡ x → movedOn st x .ok ≡ true → Behind names s (movedOn st x) × (st .at < movedOn st x .at)
       further size done e o = absurd (not-done e)
       further size blank e o = (behind-blank e, skipped-further)
       further size (token t n) e o =
@@ -258,20 +256,20 @@ module _ (names : List (List ℕ)) (s : List ℕ) where
       further size wrong e o = true-not-false (stopped st .ok) o stopped-not-ok
 
       -- and one that is not stands where no token is
-      stopped-refused : (x : Next) → nextOf names (drop (st .at) s) ≡ x → moved st x .ok ≡ false → lexOf names s ≡ refused
+      stopped-refused : (x : NextToken) → nextToken names (drop (st .at) s) ≡ x → movedOn st x .ok ≡ false → lexOf names s ≡ refused
       stopped-refused done e o = absurd (not-done e)
       stopped-refused blank e o = true-not-false (skipped st .ok) skipped-ok o
-      stopped-refused (token t n) e o = true-not-false (moved st (token t n) .ok) (moved-ok t n) o
+      stopped-refused (token t n) e o = true-not-false (movedOn st (token t n) .ok) (moved-ok t n) o
       stopped-refused wrong e o = behind-wrong e
 
-      module _ (r : State) (step : r ≡ moved st (nextOf names (drop (st .at) s))) where
+      module _ (r : State) (step : r ≡ movedOn st (nextToken names (drop (st .at) s))) where
         pub step-on : length s ≤ maxQuery → r .ok ≡ true → Behind names s r × (st .at < r .at)
         step-on size o =
             subst (λ q. Behind names s q × (st .at < q .at)) (sym step)
-            (further size (nextOf names (drop (st .at) s)) refl (ap (λ q. q .ok) (sym step) ∙ o))
+            (further size (nextToken names (drop (st .at) s)) refl (ap (λ q. q .ok) (sym step) ∙ o))
 
-        pub step-stops : r .ok ≡ false → refusal ≡ lexedOf names s
-        step-stops o = sym (answer-refused names s (stopped-refused (nextOf names (drop (st .at) s)) refl (ap (λ q. q .ok) (sym step) ∙ o)))
+        pub step-stops : r .ok ≡ false → refusedLex ≡ lexedOf names s
+        step-stops o = sym (answer-refused names s (stopped-refused (nextToken names (drop (st .at) s)) refl (ap (λ q. q .ok) (sym step) ∙ o)))
 
     -- ---- the end
 
@@ -283,7 +281,7 @@ module _ (names : List (List ℕ)) (s : List ℕ) where
           ∙ ap (onward (b .passed)) (step-done names (b .steps))
           ∙ ap tokens (append-nil (b .passed))
 
-      pushed-words : st .words ≡ pushAll (packed []) (map entryOf (tokenNodes begins (b .passed)))
+      pushed-words : st .words ≡ pushWords (packed []) (map nodeEntry (tokenNodes begins (b .passed)))
       pushed-words = ap (λ x. x .words) (b .state)
 
       -- a query's words find room
@@ -291,7 +289,7 @@ module _ (names : List (List ℕ)) (s : List ℕ) where
       room = omega (arith, tokens-bytes (tokens-law names s (b .passed) .1 all-read) begins)
 
       sizes-length : length (wordSizes (b .passed)) ≡ length (tokenNodes begins (b .passed))
-      sizes-length = map-length sizeOf (tokenNodes begins (b .passed))
+      sizes-length = length-nodeMap sizeOf (tokenNodes begins (b .passed))
 
       words-packed : isWithin (b .passed) ≡ true → st .words ≡ packed (tokenNodes begins (b .passed))
       words-packed w =
@@ -304,7 +302,7 @@ module _ (names : List (List ℕ)) (s : List ℕ) where
           let f = fitted (tokenNodes begins (b .passed)) (packed []) (subst (λ w. w .count ≤ maxWords) pushed-words h) in
           both-true (leb (length (wordSizes (b .passed))) maxWords) (shortSizes (tokenNodes begins (b .passed))) (le-leb (length (wordSizes (b .passed))) maxWords (omega (arith, sizes-length, f .0))) (f .1)
 
-      pub too-many : maxWords < st .words .count → refusal ≡ lexedOf names s
+      pub too-many : maxWords < st .words .count → refusedLex ≡ lexedOf names s
       too-many h =
           sym (answer-past names s (b .passed) size all-read
           (bool-case (isWithin (b .passed))

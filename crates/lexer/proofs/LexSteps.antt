@@ -11,20 +11,20 @@ use lib.Dec.{ltb}
 use borrow.Author.Tests.{eq-eqb, ne-eqb, le-ltb, lt-ltb}
 use Rattle.common.specs.Pick.{pick}
 use Rattle.common.specs.Bytes.{span, same}
-use Rattle.common.proofs.Cases.{pick-case}
-use Rattle.common.proofs.Lists.{span-most}
+use Rattle.common.proofs.Cases.{pick-case, both-false-right}
+use Rattle.common.proofs.Runs.{span-most}
+use Rattle.common.proofs.Parts.{part-all}
+use Rattle.common.specs.Bounds.{maxColumns}
 use Rattle.tokenizer.specs.Word.{isDigit, places}
-use Rattle.tokenizer.proofs.General.{both-false}
-use Rattle.offsets.specs.Names.{isNameByte, columnOf, maxColumns}
+use Rattle.offsets.specs.Names.{isNameByte, columnOf}
 use Rattle.offsets.specs.declared.Column.the-variants.{At, Unknown}
 use Rattle.lexer.specs.Token.{anyColumn, onlyColumn, bare, written, lparen, rparen, AND, OR, NOT, NEAR, kindOf}
 use Rattle.lexer.specs.Tokens.{openByte, closeByte, quoteByte, colonByte, isSpace, isRunByte, isInner, each, bytesAND, bytesOR, bytesNOT, bytesNEAR, decimal}
-use Rattle.lexer.specs.Lexing.{blank, token, wrong, phraseOf, isStem, isNearWritten, inColumn, columnRun, Operator, operator, no-operator, operatorOf, wordNext, operatorOr, runNext, quoteNext, nextOf}
-use Rattle.lexer.specs.Filling.{pushAll, operandKind, tieBehind, distanceBehind, signOf, tokenEntries, withToken, moved}
+use Rattle.lexer.specs.Lexing.{blank, token, wrong, phraseOf, isStem, isNearWritten, inColumn, columnRun, Operator, operator, no-operator, operatorOf, wordNext, operatorOr, runNext, quoteNext, nextToken}
+use Rattle.lexer.specs.Filling.{pushWords, operandKind, tieAfter, distanceAfter, signOf, tokenEntries, withToken, movedOn}
 use Rattle.lexer.specs.declared.Sign.{Sign}
 use Rattle.lexer.specs.declared.State.{State}
 use Rattle.lexer.specs.declared.Words.{Words}
-use Rattle.lexer.proofs.General.{take-rest}
 use Rattle.lexer.proofs.Runs.{near-read}
 
 -- ---- a quoted phrase
@@ -51,19 +51,19 @@ module _ (names : List (List ℕ)) (s : List ℕ) (n : ℕ) (measured : n ≡ sp
 
   pub column-other : (getD s n 0 ≡ colonByte → ⊥) → wrong ≡ columnRun names s
   unfolding columnRun
-  column-other e = rw (← measured, ne-eqb (getD s n 0) colonByte e, both-false (ltb 0 n) false refl)
+  column-other e = rw (← measured, ne-eqb (getD s n 0) colonByte e, both-false-right (ltb 0 n) false refl)
 
   pub column-end : length s ≤ n → wrong ≡ columnRun names s
   column-end h = column-other (λ e. omega (arith, List·getD-eq-default s 0 h))
 
   module _ (some : n ≡ 0 → ⊥) (colon : getD s n 0 ≡ colonByte) where
-    -- the word behind the `:`
+    -- the word after the `:`
     abbrev text : List ℕ
     text = take (length s - (n + 1)) (drop (n + 1) s)
 
     column-named : pick (isStem text) (inColumn (columnOf names (take n s)) text (length s)) wrong ≡ columnRun names s
     unfolding columnRun
-    column-named = rw (← measured, lt-ltb 0 n (omega arith), colon, take-rest s (n + 1))
+    column-named = rw (← measured, lt-ltb 0 n (omega arith), colon, part-all s (n + 1))
 
     pub column-bare : isStem text ≡ false → wrong ≡ columnRun names s
     column-bare e = ap (λ b. pick b (inColumn (columnOf names (take n s)) text (length s)) wrong) (sym e) ∙ column-named
@@ -87,16 +87,16 @@ module _ (names : List (List ℕ)) (s : List ℕ) (n : ℕ) (measured : n ≡ sp
 
 -- ---- a run
 
-none-pushed : (w : Words) → pushAll w [] ≡ w
-unfolding pushAll
+none-pushed : (w : Words) → pushWords w [] ≡ w
+unfolding pushWords
 none-pushed w = refl
 
 -- the digits of a distance
 pub digits-few : (s : List ℕ) → isNearWritten s ≡ true → length (take (length s - 5) (drop 5 s)) ≤ 4
-digits-few s e = rw (take-rest s 5) (near-read s e .few)
+digits-few s e = rw (part-all s 5) (near-read s e .few)
 
 pub digits-pass : (s : List ℕ) → isNearWritten s ≡ true → each isDigit (take (length s - 5) (drop 5 s)) ≡ true
-digits-pass s e = rw (take-rest s 5) (near-read s e .digits .passes)
+digits-pass s e = rw (part-all s 5) (near-read s e .digits .passes)
 
 -- which operator a run is
 module _ (s : List ℕ) where
@@ -122,7 +122,7 @@ module _ (s : List ℕ) where
         module _ (near : same s bytesNEAR ≡ false) where
           pub run-written : isNearWritten s ≡ true → (d : ℕ) → d ≡ decimal (take (length s - 5) (drop 5 s)) → operator (NEAR (written d)) ≡ operatorOf s
           unfolding operatorOf
-          run-written e d f = rw (and, or, no-not, near, e, f, take-rest s 5)
+          run-written e d f = rw (and, or, no-not, near, e, f, part-all s 5)
 
           pub run-other : isNearWritten s ≡ false → no-operator ≡ operatorOf s
           unfolding operatorOf
@@ -145,14 +145,14 @@ plain s =
 
 module _ (names : List (List ℕ)) (s : List ℕ) (o : Sign) (told : o ≡ signOf (operatorOf s)) where
   -- a run that is an operator
-  pub operator-moved : (st : State) → (o .kind ≡ operandKind → ⊥) → withToken st (o .kind) (o .tie) (o .distance) (st .words) (length s) ≡ moved st (runNext names s)
+  pub operator-moved : (st : State) → (o .kind ≡ operandKind → ⊥) → withToken st (o .kind) (o .tie) (o .distance) (st .words) (length s) ≡ movedOn st (runNext names s)
   unfolding runNext
   operator-moved st some = found (operatorOf s) (plain s) told
     where
-      found : (x : Operator) → Plain x → o ≡ signOf x → withToken st (o .kind) (o .tie) (o .distance) (st .words) (length s) ≡ moved st (operatorOr x (length s) (wordNext names s))
+      found : (x : Operator) → Plain x → o ≡ signOf x → withToken st (o .kind) (o .tie) (o .distance) (st .words) (length s) ≡ movedOn st (operatorOr x (length s) (wordNext names s))
       found (operator t) p e =
           ap (λ (q : Sign). withToken st (q .kind) (q .tie) (q .distance) (st .words) (length s)) e
-          ∙ ap (λ ws. withToken st (kindOf t) (tieBehind t) (distanceBehind t) ws (length s)) (sym (ap (pushAll (st .words)) (p .1 (st .tie) (st .distance)) ∙ none-pushed (st .words)))
+          ∙ ap (λ ws. withToken st (kindOf t) (tieAfter t) (distanceAfter t) ws (length s)) (sym (ap (pushWords (st .words)) (p .1 (st .tie) (st .distance)) ∙ none-pushed (st .words)))
       found no-operator p e = absurd (some (ap (λ q. q .kind) e))
 
   module _ (other : o .kind ≡ operandKind) where
@@ -181,26 +181,26 @@ module _ (s : List ℕ) (at : ℕ) (inside : at < length s) (n : ℕ) (measured 
   run-inside = omega (arith, span-most isRunByte (take (length s - at) (drop at s)))
 
   pub run-fits : at + length (take n (take (length s - at) (drop at s))) ≤ length s
-  run-fits = omega (arith, ap length (take-rest s at), length-drop at s, run-inside, length-take-le n (take (length s - at) (drop at s)) run-inside)
+  run-fits = omega (arith, ap length (part-all s at), length-drop at s, run-inside, length-take-le n (take (length s - at) (drop at s)) run-inside)
 
 module _ (names : List (List ℕ)) (s : List ℕ) (at : ℕ) (inside : at < length s) where
-  pub next-space : isSpace (getD s at 0) ≡ true → blank ≡ nextOf names (drop at s)
-  unfolding nextOf
+  pub next-space : isSpace (getD s at 0) ≡ true → blank ≡ nextToken names (drop at s)
+  unfolding nextToken
   next-space e = rw (drop-cons s at 0 inside, e)
 
   module _ (space : isSpace (getD s at 0) ≡ false) where
-    pub next-open : getD s at 0 ≡ openByte → token lparen 1 ≡ nextOf names (drop at s)
-    unfolding nextOf
+    pub next-open : getD s at 0 ≡ openByte → token lparen 1 ≡ nextToken names (drop at s)
+    unfolding nextToken
     next-open e = rw (drop-cons s at 0 inside, space, eq-eqb (getD s at 0) openByte e)
 
     module _ (open-byte : getD s at 0 ≡ openByte → ⊥) where
-      pub next-close : getD s at 0 ≡ closeByte → token rparen 1 ≡ nextOf names (drop at s)
-      unfolding nextOf
+      pub next-close : getD s at 0 ≡ closeByte → token rparen 1 ≡ nextToken names (drop at s)
+      unfolding nextToken
       next-close e = rw (drop-cons s at 0 inside, space, ne-eqb (getD s at 0) openByte open-byte, eq-eqb (getD s at 0) closeByte e)
 
       module _ (close-byte : getD s at 0 ≡ closeByte → ⊥) where
-        pub next-quote : getD s at 0 ≡ quoteByte → quoteNext (take (length s - (at + 1)) (drop (at + 1) s)) ≡ nextOf names (drop at s)
-        unfolding nextOf
+        pub next-quote : getD s at 0 ≡ quoteByte → quoteNext (take (length s - (at + 1)) (drop (at + 1) s)) ≡ nextToken names (drop at s)
+        unfolding nextToken
         next-quote e =
             rw (
               drop-cons s at 0 inside,
@@ -208,17 +208,17 @@ module _ (names : List (List ℕ)) (s : List ℕ) (at : ℕ) (inside : at < leng
               ne-eqb (getD s at 0) openByte open-byte,
               ne-eqb (getD s at 0) closeByte close-byte,
               eq-eqb (getD s at 0) quoteByte e,
-              take-rest s (at + 1),
+              part-all s (at + 1),
               add-one at,
             )
 
         module _ (quote-byte : getD s at 0 ≡ quoteByte → ⊥) (n : ℕ) (measured : n ≡ span isRunByte (take (length s - at) (drop at s))) where
-          pub next-run : runNext names (take n (take (length s - at) (drop at s))) ≡ nextOf names (drop at s)
-          unfolding nextOf
+          pub next-run : runNext names (take n (take (length s - at) (drop at s))) ≡ nextToken names (drop at s)
+          unfolding nextToken
           next-run =
               rw (
                 measured,
-                take-rest s at,
+                part-all s at,
                 drop-cons s at 0 inside,
                 space,
                 ne-eqb (getD s at 0) openByte open-byte,

@@ -1,4 +1,4 @@
-pub mod General
+-- The laws of this crate, in the order in which they build on each other.
 pub mod Stretches
 pub mod Phrases
 pub mod Runs
@@ -8,6 +8,7 @@ pub mod Numbers
 pub mod WordLaws
 pub mod PhraseSteps
 pub mod LexSteps
+pub mod Nodes
 pub mod Packing
 pub mod TokenNodes
 pub mod Answers

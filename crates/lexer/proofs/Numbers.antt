@@ -1,14 +1,12 @@
 -- The numbers of a query: distances of at most four digits, and column sets.
-use Prim.Native.Nat.{ℕ, zero, suc, _+_, _-_, _*_, _%_, _^_, _≤_, _<_}
-use native.Mathlib.Nat.{mod-eq-of-lt}
+use Prim.Native.Nat.{ℕ, zero, suc, _+_, _-_, _*_, _^_, _≤_, _<_}
 use native.Mathlib.Numerals.{add-one}
 use native.Mathlib.Omega.{arith}
-use mathlib.Core.Path.{_≡_, ap, _∙_}
+use mathlib.Core.Path.{_≡_}
 use mathlib.Core.Bool.{true}
 use mathlib.Core.List.{List}
 use lib.ListN.{length, getD, drop, drop-of-length-le}
 use lib.Seq.{drop-cons}
-use lib.Pow.{pow-lt}
 use lib.Dec.{leb}
 use borrow.Author.Tests.{leb-true}
 use Rattle.common.proofs.Cases.{both-left, both-right}
@@ -60,9 +58,3 @@ unfolding decimalFrom
 decimal-end s i n h = rw (drop-of-length-le s h)
 
 -- ---- column sets
-
--- a bit below the 16th stays in 16 bits
-pub one-bit : (c : ℕ) → c < 16 → 1 * 2 ^ c % 65536 ≡ 2 ^ c
-one-bit c h =
-    let e : 1 * 2 ^ c ≡ 2 ^ c = omega arith in
-    ap (λ n. n % 65536) e ∙ mod-eq-of-lt (pow-lt {i = c} {j = 16} h)

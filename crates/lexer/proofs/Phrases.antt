@@ -13,17 +13,14 @@ use lib.Dec.{eqb}
 use Rattle.common.specs.Bytes.{span, part}
 use Rattle.common.proofs.Cases.{split, bool-case}
 use Rattle.common.proofs.Lists.{drop-head, drop-past}
-use Rattle.tokenizer.specs.Word.{isWord, fold, Place, wordStart, wordEnd, placesFrom}
-use Rattle.tokenizer.proofs.General.{past}
-use Rattle.tokenizer.proofs.Laws.{end-past, start-end, start-stop, start-more, places-some, places-none}
+use Rattle.common.proofs.Runs.{past}
+use Rattle.tokenizer.specs.Word.{isWord, fold, wordStart, wordEnd, placesFrom}
+use Rattle.tokenizer.proofs.Laws.{end-past, start-stop, start-more, places-some, places-none}
+use Rattle.tokenizer.proofs.Runs.{places-end, at-place}
 use Rattle.lexer.specs.Token.{QueryWord}
 use Rattle.lexer.specs.Tokens.{starByte, Stretch, stops, starred, PhraseWords, none, separator, word}
 use Rattle.lexer.specs.Lexing.{wordIn, phraseWords}
 use Rattle.lexer.proofs.Stretches.{each-at, span-stretch, span-rest, stretch-front}
-
--- a record of a place, by its two ends
-abbrev at-place : ℕ → ℕ → Place
-at-place a e = record { start = a; end = e }
 
 star-front : (t : List ℕ) → eqb (getD t 0 0) starByte ≡ starred t
 unfolding starred
@@ -34,9 +31,6 @@ module _ (s : List ℕ) where
   -- the words from the place `at` on
   abbrev wordsFrom : ℕ → List QueryWord
   wordsFrom at = map (wordIn s) (placesFrom s at)
-
-  nothing-left : (at : ℕ) → length s ≤ at → placesFrom s at ≡ []
-  nothing-left at h = places-none s at (omega (arith, start-end s at h))
 
   -- a separator is passed over
   past-separator : (at : ℕ) → at < length s → isWord (getD s at 0) ≡ false → placesFrom s at ≡ placesFrom s (at + 1)
@@ -76,14 +70,14 @@ module _ (s : List ℕ) where
         ap (λ i. getD s i 0) m ∙ sym (getD-drop at s (length w + 0) 0) ∙ ap (λ r. getD r (length w + 0) 0) stands ∙ getD-append-add w t 0 0 in
         ap₂ (λ (bs : List ℕ) (st : Bool). record { bytes = map fold bs; star = st }) b (ap (λ x. eqb x starByte) g ∙ star-front t)
 
-    -- a split behind a word, with the word in front
+    -- a split after a word, with the word in front
     word-before : PhraseWords t (wordsFrom (at + length w)) → PhraseWords (drop at s) (wordsFrom at)
     word-before p =
         subst₂ PhraseWords (sym stands) (ap (λ q. q ∷ wordsFrom (at + length w)) (sym word-read) ∙ ap (map (wordIn s)) (sym word-first)) (word is end p)
 
   -- a split is what is found
   finds : {t : List ℕ} {ws : List QueryWord} → PhraseWords t ws → (at : ℕ) → drop at s ≡ t → ws ≡ wordsFrom at
-  finds none at e = sym (ap (map (wordIn s)) (nothing-left at (omega (arith, length-drop at s, ap length e))))
+  finds none at e = sym (ap (map (wordIn s)) (places-end s at (omega (arith, length-drop at s, ap length e))))
   finds (separator {b} {s = t} n p) at e =
       let d = drop-head s at b t e in
       finds p (at + 1) (d .2) ∙ ap (map (wordIn s)) (sym (past-separator at (d .0) (ap isWord (d .1) ∙ n)))
@@ -91,7 +85,7 @@ module _ (s : List ℕ) where
       ap₂ _∷_ (sym (word-read at w t e is end)) (finds p (at + length w) (drop-past s at w t e)) ∙ ap (map (wordIn s)) (sym (word-first at w t e is end))
 
   end-split : (at : ℕ) → length s ≤ at → PhraseWords (drop at s) (wordsFrom at)
-  end-split at h = rw (drop-of-length-le s h, nothing-left at h) none
+  end-split at h = rw (drop-of-length-le s h, places-end s at h) none
 
   separator-split : (at : ℕ) → at < length s → isWord (getD s at 0) ≡ false → PhraseWords (drop (at + 1) s) (wordsFrom (at + 1)) → PhraseWords (drop at s) (wordsFrom at)
   separator-split at h e p = rw (drop-cons s at 0 h, past-separator at h e, ← (add-one at)) (separator e p)

@@ -8,10 +8,10 @@ use lib.ListN.{length, getD, take, drop}
 use lib.Dec.{eqb, ltb}
 use borrow.Author.Tests.{eq-eqb, ne-eqb, le-leb, lt-leb, lt-ltb}
 use Rattle.common.specs.Bytes.{span, same}
+use Rattle.common.proofs.Parts.{part-all}
 use Rattle.tokenizer.specs.Word.{isWord, isDigit}
 use Rattle.lexer.specs.Tokens.{starByte, bytesNEARSlash}
 use Rattle.lexer.specs.Lexing.{isStem, isNearWritten}
-use Rattle.lexer.proofs.General.{take-rest}
 use Rattle.lexer.proofs.Stretches.{each-span}
 
 -- ---- NEAR with digits
@@ -33,7 +33,7 @@ module _ (s : List ℕ) where
       → eqb n (length (take (length s - 5) (drop 5 s))) ≡ isNearWritten s
   unfolding isNearWritten
   near-digits n l h e d =
-      rw (le-leb 6 (length s) l, le-leb (length s) 9 h, e, d, take-rest s 5) (sym (each-span isDigit (drop 5 s)))
+      rw (le-leb 6 (length s) l, le-leb (length s) 9 h, e, d, part-all s 5) (sym (each-span isDigit (drop 5 s)))
 
 -- ---- a word with an optional star
 

@@ -12,18 +12,18 @@ use lib.Dec.{eqb, leb, ltb}
 use borrow.Author.Tests.{eqb-true, eqb-false, eq-eqb, leb-true, le-leb, ltb-true, lt-ltb, not-true}
 use Rattle.common.specs.Pick.{pick, both, either}
 use Rattle.common.specs.Bytes.{span, same, within}
-use Rattle.common.proofs.Cases.{split, bool-case, pick-case, both-left, both-right}
-use Rattle.common.proofs.Lists.{same-true, span-most}
+use Rattle.common.proofs.Cases.{split, bool-case, pick-case, both-left, both-right, either-right, either-false-left, either-false-right, either-false, either-case, true-not-false}
+use Rattle.common.proofs.Same.{same-true}
+use Rattle.common.proofs.Runs.{span-most, span-before}
+use Rattle.common.specs.Bounds.{maxColumns}
 use Rattle.tokenizer.specs.Word.{isWord, isDigit}
-use Rattle.tokenizer.proofs.General.{either-right}
-use Rattle.offsets.specs.Names.{isNameByte, columnOf, maxColumns}
+use Rattle.offsets.specs.Names.{isNameByte, columnOf}
 use Rattle.offsets.specs.declared.Column.{Column}
 use Rattle.offsets.specs.declared.Column.the-variants.{At, Unknown}
 use Rattle.offsets.proofs.NameLaws.{column-law}
 use Rattle.lexer.specs.Token.{anyColumn, onlyColumn, bare, written, Token, AND, OR, NOT, NEAR, operand, QueryWord}
 use Rattle.lexer.specs.Tokens.{starByte, colonByte, each, stops, Stretch, starred, PhraseWords, none, separator, word, bytesAND, bytesOR, bytesNOT, bytesNEAR, bytesNEARSlash, isOperator, decimal, mark, oneWord, RunToken, and-run, or-run, not-run, near-run, written-run, word-run, column-run}
-use Rattle.lexer.specs.Lexing.{Next, done, blank, token, wrong, phraseOf, isStem, isNearWritten, inColumn, columnRun, Operator, operator, no-operator, operatorOf, wordNext, operatorOr, runNext}
-use Rattle.lexer.proofs.General.{either-false-left, either-false-right, either-false, either-case, span-before, true-not-false}
+use Rattle.lexer.specs.Lexing.{NextToken, done, blank, token, wrong, phraseOf, isStem, isNearWritten, inColumn, columnRun, Operator, operator, no-operator, operatorOf, wordNext, operatorOr, runNext}
 use Rattle.lexer.proofs.Stretches.{each-at, span-stretch, span-each}
 use Rattle.lexer.proofs.Phrases.{phrase-law}
 
@@ -269,7 +269,7 @@ run-finds {names} (column-run {name} {w} {c} star is e low ws) = column-found na
 
 module _ (names : List (List ℕ)) (r : List ℕ) where
   -- what an answer says of the run
-  abbrev pub RunIs : Next → Type 0
+  abbrev pub RunIs : NextToken → Type 0
   RunIs done = ⊥
   RunIs blank = ⊥
   RunIs (token t n) = RunToken names r t × (n ≡ length r)
@@ -290,7 +290,7 @@ module _ (names : List (List ℕ)) (r : List ℕ) where
         refl,
       )
 
-  -- the parts of a run with a `:` behind a name
+  -- the parts of a run with a `:` after a name
   named-whole : getD r (span isNameByte r) 0 ≡ colonByte → r ≡ take (span isNameByte r) r ++ colonByte ∷ drop (span isNameByte r + 1) r
   named-whole g =
       let n = span isNameByte r in

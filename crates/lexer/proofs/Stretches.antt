@@ -7,17 +7,12 @@ use mathlib.Core.Bool.{Bool, true}
 use mathlib.Core.List.{List, [], _∷_, _++_}
 use lib.ListN.{length, getD, take, drop}
 use lib.Dec.{eqb}
-use borrow.Author.Tests.{eqb-true, eq-eqb, ne-eqb, not-true}
+use borrow.Author.Tests.{ne-eqb, not-true}
 use Rattle.common.specs.Bytes.{span}
 use Rattle.common.proofs.Cases.{bool-case, both-left, both-right, both-true}
+use Rattle.common.proofs.Numbers.{eqb-suc}
+use Rattle.common.proofs.Runs.{span-some}
 use Rattle.lexer.specs.Tokens.{each, stops, Stretch}
-use Rattle.lexer.proofs.General.{same-test}
-
-eqb-suc : (m n : ℕ) → eqb m n ≡ eqb (suc m) (suc n)
-eqb-suc m n =
-    same-test (eqb m n) (eqb (suc m) (suc n))
-    (λ e. eq-eqb (suc m) (suc n) (ap suc (eqb-true m n e)))
-    (λ e. let h = eqb-true (suc m) (suc n) e in eq-eqb m n (omega arith))
 
 module _ (test : ℕ → Bool) where
   -- the byte at a place of a stretch passes
@@ -50,10 +45,6 @@ module _ (test : ℕ → Bool) where
   span-rest [] = refl
   span-rest (b ∷ s) = bool-case (test b) (λ t. rw t (span-rest s)) (λ t. rw (t, t) refl)
 
-  some-front : (b : ℕ) (s : List ℕ) → test b ≡ true → 0 < length (take (span test (b ∷ s)) (b ∷ s))
-  unfolding span
-  some-front b s e = rw e (omega arith)
-
   -- all bytes pass exactly where the stretch is the whole
   pub each-span : (s : List ℕ) → each test s ≡ eqb (span test s) (length s)
   unfolding each span
@@ -63,4 +54,4 @@ module _ (test : ℕ → Bool) where
   -- where the first byte passes, there is a stretch at the front
   pub stretch-front : (s : List ℕ) → 0 < length s → test (getD s 0 0) ≡ true → Stretch test (take (span test s) s)
   stretch-front [] h e = absurd (not-suc-le-zero h)
-  stretch-front (b ∷ s) h e = record { some = some-front b s e; passes = span-each (b ∷ s) }
+  stretch-front (b ∷ s) h e = record { some = span-some test b s e; passes = span-each (b ∷ s) }

@@ -12,28 +12,27 @@ use lib.Dec.{eqb, ltb}
 use borrow.Author.Tests.{eqb-true, ltb-true, lt-ltb, not-true, not-false}
 use Rattle.common.specs.Pick.{either}
 use Rattle.common.specs.Bytes.{span}
-use Rattle.common.proofs.Cases.{pick-case}
-use Rattle.common.proofs.Lists.{span-most, span-stops}
+use Rattle.common.proofs.Cases.{pick-case, either-false, either-false-left, either-false-right}
+use Rattle.common.proofs.Runs.{span-most, span-stops}
 use Rattle.tokenizer.specs.Word.{places}
 use Rattle.lexer.specs.Token.{QueryWord, anyColumn, Token, lparen, rparen, operand}
 use Rattle.lexer.specs.Tokens.{openByte, closeByte, quoteByte, isSpace, isRunByte, isInner, each, stops, Stretch, PhraseWords, RunToken, Tokens, end, space, open-paren, close-paren, quote, run}
-use Rattle.lexer.specs.Lexing.{Next, done, blank, token, wrong, wordIn, phraseWords, phraseOf, runNext, quoteNext, nextOf, Lexing, tokens, refused, prepend, andThen, lexIn, lexOf}
-use Rattle.lexer.proofs.General.{either-false, either-false-left, either-false-right}
+use Rattle.lexer.specs.Lexing.{NextToken, done, blank, token, wrong, wordIn, phraseWords, phraseOf, runNext, quoteNext, nextToken, Lexing, tokens, refused, prepend, andThen, lexIn, lexOf}
 use Rattle.lexer.proofs.Stretches.{each-at, span-stretch, span-each, span-rest, stretch-front}
 use Rattle.lexer.proofs.Phrases.{phrase-law}
 use Rattle.lexer.proofs.Runs.{RunIs, run-is, run-finds}
 
--- ---- what `nextOf` finds stands at the front
+-- ---- what `nextToken` finds stands at the front
 
 module _ (names : List (List ℕ)) where
   -- what an answer says of the bytes
-  abbrev Fronts : List ℕ → Next → Type 0
+  abbrev Fronts : List ℕ → NextToken → Type 0
   Fronts s done = s ≡ []
   Fronts s blank = (ts : List Token) → Tokens names (drop 1 s) ts → Tokens names s ts
   Fronts s (token t n) = (ts : List Token) → Tokens names (drop n s) ts → Tokens names s (t ∷ ts)
   Fronts s wrong = Unit {0}
 
-  -- the parts of a quote that is closed behind n bytes
+  -- the parts of a quote that is closed after n bytes
   closed : (s : List ℕ) (n : ℕ) → n ≡ span isInner s → n < length s → s ≡ take n s ++ quoteByte ∷ drop (suc n) s
   unfolding isInner
   closed s n e h =
@@ -64,7 +63,7 @@ module _ (names : List (List ℕ)) where
       n : ℕ
       n = span isRunByte (b ∷ s)
 
-      found : (x : Next) → RunIs names (take n (b ∷ s)) x → Fronts (b ∷ s) x
+      found : (x : NextToken) → RunIs names (take n (b ∷ s)) x → Fronts (b ∷ s) x
       found done i = absurd i
       found blank i = absurd i
       found (token t m) i =
@@ -74,8 +73,8 @@ module _ (names : List (List ℕ)) where
           (run (stretch-front isRunByte (b ∷ s) (omega arith) e) (span-rest isRunByte (b ∷ s)) (i .0) (subst (λ k. Tokens names (drop k (b ∷ s)) ts) l d))
       found wrong i = tt
 
-  next-front : (s : List ℕ) → Fronts s (nextOf names s)
-  unfolding nextOf isRunByte
+  next-front : (s : List ℕ) → Fronts s (nextToken names s)
+  unfolding nextToken isRunByte
   next-front [] = refl
   next-front (b ∷ s) =
       pick-case (Fronts (b ∷ s)) (isSpace b) blank _ (λ e ts d. space e d)
@@ -95,7 +94,7 @@ module _ (names : List (List ℕ)) where
   behind t ts s n f refused again e = let z : _≡_ {A = ℕ} 0 1 = cc in absurd (omega arith)
 
   after-next : (s : List ℕ) (ts : List Token) (rest : ℕ → Lexing) → ((n : ℕ) (us : List Token) → rest n ≡ tokens us → Tokens names (drop n s) us)
-      → (x : Next) → Fronts s x → andThen x rest ≡ tokens ts → Tokens names s ts
+      → (x : NextToken) → Fronts s x → andThen x rest ≡ tokens ts → Tokens names s ts
   after-next s ts rest again done f e = let h : [] ≡ ts = cc in subst₂ (Tokens names) (sym f) h end
   after-next s ts rest again blank f e = f ts (again 1 ts e)
   after-next s ts rest again (token t n) f e = behind t ts s n f (rest n) (again n) e
@@ -104,20 +103,20 @@ module _ (names : List (List ℕ)) where
   pub lex-sound : (k : ℕ) (s : List ℕ) (ts : List Token) → lexIn k names s ≡ tokens ts → Tokens names s ts
   unfolding lexIn
   lex-sound zero s ts e = let z : _≡_ {A = ℕ} 0 1 = cc in absurd (omega arith)
-  lex-sound (suc k) s ts e = after-next s ts (λ n. lexIn k names (drop n s)) (λ n us h. lex-sound k (drop n s) us h) (nextOf names s) (next-front s) e
+  lex-sound (suc k) s ts e = after-next s ts (λ n. lexIn k names (drop n s)) (λ n us h. lex-sound k (drop n s) us h) (nextToken names s) (next-front s) e
 
   -- ---- the tokens are found
 
-  found-space : (b : ℕ) (s : List ℕ) → isSpace b ≡ true → nextOf names (b ∷ s) ≡ blank
-  unfolding nextOf
+  found-space : (b : ℕ) (s : List ℕ) → isSpace b ≡ true → nextToken names (b ∷ s) ≡ blank
+  unfolding nextToken
   found-space b s e = rw e
 
-  found-open : (s : List ℕ) → nextOf names (openByte ∷ s) ≡ token lparen 1
-  unfolding nextOf isSpace
+  found-open : (s : List ℕ) → nextToken names (openByte ∷ s) ≡ token lparen 1
+  unfolding nextToken isSpace
   found-open s = refl
 
-  found-close : (s : List ℕ) → nextOf names (closeByte ∷ s) ≡ token rparen 1
-  unfolding nextOf isSpace
+  found-close : (s : List ℕ) → nextToken names (closeByte ∷ s) ≡ token rparen 1
+  unfolding nextToken isSpace
   found-close s = refl
 
   quote-stops : (s : List ℕ) → stops isInner (quoteByte ∷ s) ≡ true
@@ -125,8 +124,8 @@ module _ (names : List (List ℕ)) where
   quote-stops s = refl
 
   found-quote : (inner s : List ℕ) (ws : List QueryWord) → each isInner inner ≡ true → PhraseWords inner ws → 0 < length ws
-      → nextOf names (quoteByte ∷ (inner ++ quoteByte ∷ s)) ≡ token (operand (record { words = ws; columns = anyColumn })) (length inner + 2)
-  unfolding nextOf isSpace quoteNext
+      → nextToken names (quoteByte ∷ (inner ++ quoteByte ∷ s)) ≡ token (operand (record { words = ws; columns = anyColumn })) (length inner + 2)
+  unfolding nextToken isSpace quoteNext
   found-quote inner s ws e p some =
       let q = phrase-law inner ws .0 p in
       let l : length ws ≡ length (places inner) = ap length q ∙ length-map (places inner) (wordIn inner) in
@@ -138,8 +137,8 @@ module _ (names : List (List ℕ)) where
         q,
       )
 
-  run-next : (b : ℕ) (s : List ℕ) → isRunByte b ≡ true → nextOf names (b ∷ s) ≡ runNext names (take (span isRunByte (b ∷ s)) (b ∷ s))
-  unfolding nextOf isRunByte
+  run-next : (b : ℕ) (s : List ℕ) → isRunByte b ≡ true → nextToken names (b ∷ s) ≡ runNext names (take (span isRunByte (b ∷ s)) (b ∷ s))
+  unfolding nextToken isRunByte
   run-next b s e =
       let p = not-true _ e in
       let a = either-false-right (isSpace b) (either (eqb b openByte) (either (eqb b closeByte) (eqb b quoteByte))) p in
@@ -151,7 +150,7 @@ module _ (names : List (List ℕ)) where
         either-false-right (eqb b closeByte) (eqb b quoteByte) c,
       )
 
-  found-run : (r s : List ℕ) (t : Token) → Stretch isRunByte r → stops isRunByte s ≡ true → RunToken names r t → nextOf names (r ++ s) ≡ token t (length r)
+  found-run : (r s : List ℕ) (t : Token) → Stretch isRunByte r → stops isRunByte s ≡ true → RunToken names r t → nextToken names (r ++ s) ≡ token t (length r)
   found-run [] s t is e d = absurd (not-suc-le-zero (is .some))
   found-run (b ∷ r) s t is e d =
       run-next b (r ++ s) (each-at isRunByte (b ∷ r) 0 (is .passes) (is .some))
@@ -162,16 +161,16 @@ module _ (names : List (List ℕ)) where
   behind-quote : (inner s : List ℕ) → drop (length inner + 2) (quoteByte ∷ (inner ++ quoteByte ∷ s)) ≡ s
   behind-quote inner s = let e : length inner + 2 ≡ suc (length inner + 1) = omega arith in rw e (drop-append-add inner (quoteByte ∷ s) 1)
 
-  step-blank : (k : ℕ) (s : List ℕ) (x : Lexing) → nextOf names s ≡ blank → lexIn k names (drop 1 s) ≡ x → lexIn (suc k) names s ≡ x
+  step-blank : (k : ℕ) (s : List ℕ) (x : Lexing) → nextToken names s ≡ blank → lexIn k names (drop 1 s) ≡ x → lexIn (suc k) names s ≡ x
   unfolding lexIn
   step-blank k s x e h = rw e h
 
-  step-token : (k : ℕ) (s : List ℕ) (t : Token) (n : ℕ) (ts : List Token) → nextOf names s ≡ token t n → lexIn k names (drop n s) ≡ tokens ts → lexIn (suc k) names s ≡ tokens (t ∷ ts)
+  step-token : (k : ℕ) (s : List ℕ) (t : Token) (n : ℕ) (ts : List Token) → nextToken names s ≡ token t n → lexIn k names (drop n s) ≡ tokens ts → lexIn (suc k) names s ≡ tokens (t ∷ ts)
   unfolding lexIn
   step-token k s t n ts e h = rw (e, h)
 
   pub step-done : (k : ℕ) → lexIn (suc k) names [] ≡ tokens []
-  unfolding lexIn nextOf
+  unfolding lexIn nextToken
   step-done k = refl
 
   pub lex-complete : {s : List ℕ} {ts : List Token} → Tokens names s ts → (k : ℕ) → length s < k → lexIn k names s ≡ tokens ts

@@ -9,20 +9,22 @@ use lib.ListN.{length, getD, length-append, length-map}
 use lib.Dec.{leb}
 use borrow.Author.Tests.{leb-true, le-leb}
 use Rattle.common.proofs.Cases.{both-left, both-right, both-true}
-use Rattle.tokenizer.specs.Word.{fold, maxWord}
+use Rattle.common.specs.Bounds.{maxWord}
+use Rattle.tokenizer.specs.Word.{fold}
 use Rattle.lexer.specs.Token.{QueryWord, anyColumn, Token, lparen, rparen, AND, OR, NOT, NEAR, operand, Tie, begins, continues, phraseNodes, tokenNodes, maxWords, tieNumber, tieDistance, nodeBytes}
 use Rattle.lexer.specs.Tokens.{quoteByte, colonByte, each, mark, PhraseWords, none, separator, word, RunToken, and-run, or-run, not-run, near-run, written-run, word-run, column-run, Tokens, end, space, open-paren, close-paren, quote, run}
 use Rattle.lexer.specs.Lexing.{wordSizes, Within, isWithin}
 use Rattle.lexer.specs.Filling.{phraseEntries, nextTie, tokenEntries}
 use Rattle.lexer.proofs.Stretches.{each-at, each-all}
-use Rattle.lexer.proofs.Packing.{entryOf, bytes-append}
+use Rattle.lexer.proofs.Nodes.{bytes-append}
+use Rattle.lexer.proofs.Packing.{nodeEntry}
 
 -- ---- token by token
 
--- what ties an operand behind a row of tokens
-abbrev pub tieAfter : Tie → List Token → Tie
-tieAfter t [] = t
-tieAfter t (u ∷ us) = tieAfter (nextTie u) us
+-- what ties an operand after a row of tokens
+abbrev pub tieAt : Tie → List Token → Tie
+tieAt t [] = t
+tieAt t (u ∷ us) = tieAt (nextTie u) us
 
 nodes-cons : (t : Tie) (u : Token) (us : List Token) → tokenNodes t (u ∷ us) ≡ tokenNodes t (u ∷ []) ++ tokenNodes (nextTie u) us
 nodes-cons t lparen us = refl
@@ -33,31 +35,31 @@ nodes-cons t NOT us = refl
 nodes-cons t (NEAR d) us = refl
 nodes-cons t (operand p) us = ap (λ x. x ++ tokenNodes begins us) (sym (append-nil (phraseNodes t (p .columns) (p .words))))
 
-pub nodes-snoc : (t : Tie) (us : List Token) (u : Token) → tokenNodes t (us ++ u ∷ []) ≡ tokenNodes t us ++ tokenNodes (tieAfter t us) (u ∷ [])
+pub nodes-snoc : (t : Tie) (us : List Token) (u : Token) → tokenNodes t (us ++ u ∷ []) ≡ tokenNodes t us ++ tokenNodes (tieAt t us) (u ∷ [])
 nodes-snoc t [] u = refl
 nodes-snoc t (v ∷ us) u =
     nodes-cons t v (us ++ u ∷ [])
     ∙ ap (λ x. tokenNodes t (v ∷ []) ++ x) (nodes-snoc (nextTie v) us u)
-    ∙ sym (append-assoc (tokenNodes t (v ∷ [])) (tokenNodes (nextTie v) us) (tokenNodes (tieAfter (nextTie v) us) (u ∷ [])))
-    ∙ ap (λ x. x ++ tokenNodes (tieAfter (nextTie v) us) (u ∷ [])) (sym (nodes-cons t v us))
+    ∙ sym (append-assoc (tokenNodes t (v ∷ [])) (tokenNodes (nextTie v) us) (tokenNodes (tieAt (nextTie v) us) (u ∷ [])))
+    ∙ ap (λ x. x ++ tokenNodes (tieAt (nextTie v) us) (u ∷ [])) (sym (nodes-cons t v us))
 
-pub tie-snoc : (t : Tie) (us : List Token) (u : Token) → tieAfter t (us ++ u ∷ []) ≡ nextTie u
+pub tie-snoc : (t : Tie) (us : List Token) (u : Token) → tieAt t (us ++ u ∷ []) ≡ nextTie u
 tie-snoc t [] u = refl
 tie-snoc t (v ∷ us) u = tie-snoc (nextTie v) us u
 
-phrase-entries : (t : Tie) (columns : ℕ) (ws : List QueryWord) → phraseEntries (tieNumber t) (tieDistance t) columns ws ≡ map entryOf (phraseNodes t columns ws)
+phrase-entries : (t : Tie) (columns : ℕ) (ws : List QueryWord) → phraseEntries (tieNumber t) (tieDistance t) columns ws ≡ map nodeEntry (phraseNodes t columns ws)
 unfolding phraseEntries
 phrase-entries t columns [] = refl
-phrase-entries t columns (w ∷ ws) = ap (λ x. entryOf (record { tie = t; word = w; columns = columns }) ∷ x) (phrase-entries continues columns ws)
+phrase-entries t columns (w ∷ ws) = ap (λ x. nodeEntry (record { tie = t; word = w; columns = columns }) ∷ x) (phrase-entries continues columns ws)
 
-pub token-entries : (t : Tie) (u : Token) → tokenEntries (tieNumber t) (tieDistance t) u ≡ map entryOf (tokenNodes t (u ∷ []))
+pub token-entries : (t : Tie) (u : Token) → tokenEntries (tieNumber t) (tieDistance t) u ≡ map nodeEntry (tokenNodes t (u ∷ []))
 token-entries t lparen = refl
 token-entries t rparen = refl
 token-entries t AND = refl
 token-entries t OR = refl
 token-entries t NOT = refl
 token-entries t (NEAR d) = refl
-token-entries t (operand p) = phrase-entries t (p .columns) (p .words) ∙ ap (map entryOf) (sym (append-nil (phraseNodes t (p .columns) (p .words))))
+token-entries t (operand p) = phrase-entries t (p .columns) (p .words) ∙ ap (map nodeEntry) (sym (append-nil (phraseNodes t (p .columns) (p .words))))
 
 -- ---- a query's words have no more bytes than the query
 

@@ -10,12 +10,12 @@ use lib.Seq.{paste, paste-zero, paste-suc, take-length}
 use lib.Dec.{leb, ltb}
 use borrow.Author.Tests.{le-leb, lt-leb, lt-ltb, le-ltb}
 use Rattle.common.specs.Pick.{pick}
-use Rattle.tokenizer.specs.Word.{fold, maxWord}
-use Rattle.tokenizer.proofs.General.{both-false}
+use Rattle.common.proofs.Cases.{both-false-right, both-false-left}
+use Rattle.common.specs.Bounds.{maxWord}
+use Rattle.tokenizer.specs.Word.{fold}
 use Rattle.lexer.specs.Token.{maxQuery, maxWords}
-use Rattle.lexer.specs.Filling.{Entry, textEnd, hasRoom, placed, added, overfull, pushed}
+use Rattle.lexer.specs.Filling.{WordEntry, textEnd, hasRoom, placed, added, overfull, pushWord}
 use Rattle.lexer.specs.declared.Words.{Words}
-use Rattle.lexer.proofs.General.{both-false-left}
 
 -- ---- writing a word's bytes
 
@@ -41,35 +41,35 @@ module _ (text : List ℕ) (at : ℕ) (s : List ℕ) where
 
 -- ---- one more word
 
-module _ (w : Words) (e : Entry) where
-  pub pushed-full : maxWords ≤ w .count → overfull w ≡ pushed w e
-  unfolding pushed hasRoom
+module _ (w : Words) (e : WordEntry) where
+  pub pushed-full : maxWords ≤ w .count → overfull w ≡ pushWord w e
+  unfolding pushWord hasRoom
   pushed-full h = rw (le-ltb (w .count) maxWords h)
 
-  pub pushed-overlong : maxWord < length (e .bytes) → overfull w ≡ pushed w e
-  unfolding pushed hasRoom
-  pushed-overlong h = ap (λ b. pick b (added w e) (overfull w)) (sym (both-false (ltb (w .count) maxWords) _ (both-false-left _ (leb (textEnd w + length (e .bytes)) maxQuery) (lt-leb (length (e .bytes)) maxWord h))))
+  pub pushed-overlong : maxWord < length (e .bytes) → overfull w ≡ pushWord w e
+  unfolding pushWord hasRoom
+  pushed-overlong h = ap (λ b. pick b (added w e) (overfull w)) (sym (both-false-right (ltb (w .count) maxWords) _ (both-false-left _ (leb (textEnd w + length (e .bytes)) maxQuery) (lt-leb (length (e .bytes)) maxWord h))))
 
-  pub pushed-past : maxQuery < textEnd w + length (e .bytes) → overfull w ≡ pushed w e
-  unfolding pushed hasRoom
-  pushed-past h = ap (λ b. pick b (added w e) (overfull w)) (sym (both-false (ltb (w .count) maxWords) _ (both-false (leb (length (e .bytes)) maxWord) _ (lt-leb (textEnd w + length (e .bytes)) maxQuery h))))
+  pub pushed-past : maxQuery < textEnd w + length (e .bytes) → overfull w ≡ pushWord w e
+  unfolding pushWord hasRoom
+  pushed-past h = ap (λ b. pick b (added w e) (overfull w)) (sym (both-false-right (ltb (w .count) maxWords) _ (both-false-right (leb (length (e .bytes)) maxWord) _ (lt-leb (textEnd w + length (e .bytes)) maxQuery h))))
 
-  pub pushed-added : w .count < maxWords → length (e .bytes) ≤ maxWord → textEnd w + length (e .bytes) ≤ maxQuery → added w e ≡ pushed w e
-  unfolding pushed hasRoom
+  pub pushed-added : w .count < maxWords → length (e .bytes) ≤ maxWord → textEnd w + length (e .bytes) ≤ maxQuery → added w e ≡ pushWord w e
+  unfolding pushWord hasRoom
   pushed-added h k l = rw (lt-ltb (w .count) maxWords h, le-leb (length (e .bytes)) maxWord k, le-leb (textEnd w + length (e .bytes)) maxQuery l)
 
 -- the same for the bytes of a word that are still to be folded
 module _ (w : Words) (s : List ℕ) (mark columns tie distance : ℕ) where
-  abbrev wordEntry : Entry
+  abbrev wordEntry : WordEntry
   wordEntry = record { bytes = map fold s; mark = mark; columns = columns; tie = tie; distance = distance }
 
   folded-size : length (wordEntry .bytes) ≡ length s
   folded-size = length-map s fold
 
-  pub push-full : maxWords ≤ w .count → overfull w ≡ pushed w wordEntry
+  pub push-full : maxWords ≤ w .count → overfull w ≡ pushWord w wordEntry
   push-full h = pushed-full w wordEntry h
 
-  pub push-past : (from : ℕ) → from ≡ textEnd w → maxQuery < from + length s → overfull w ≡ pushed w wordEntry
+  pub push-past : (from : ℕ) → from ≡ textEnd w → maxQuery < from + length s → overfull w ≡ pushWord w wordEntry
   push-past from e h = pushed-past w wordEntry (omega (arith, folded-size))
 
   pub push-added : (text : List ℕ) (from : ℕ) → from ≡ textEnd w → text ≡ placed (w .text) from (map fold s) → w .count < maxWords → length s ≤ maxWord → from + length s ≤ maxQuery
@@ -82,7 +82,7 @@ module _ (w : Words) (s : List ℕ) (mark columns tie distance : ℕ) where
         distances = set (w .distances) (w .count) distance;
         count = w .count + 1;
       }
-      ≡ pushed w wordEntry
+      ≡ pushWord w wordEntry
   unfolding added
   push-added text from e t h k l =
       ap₂ filled (t ∙ ap (λ n. placed (w .text) n (map fold s)) e) (ap₂ _+_ e (sym folded-size))

@@ -6,11 +6,12 @@ use mathlib.Core.List.{List, [], _∷_, _++_}
 use lib.ListN.{length, getD, set, take, drop, replicate}
 use lib.Dec.{eqb, leb, ltb}
 use Rattle.common.specs.Pick.{pick, both}
-use Rattle.tokenizer.specs.Word.{isWord, isDigit, maxWord}
+use Rattle.common.specs.Bounds.{maxWord}
+use Rattle.tokenizer.specs.Word.{isWord, isDigit}
 use Rattle.offsets.specs.Names.{isNameByte}
 use Rattle.lexer.specs.Token.{QueryWord, Token, lparen, rparen, AND, OR, NOT, NEAR, operand, kindOf, Tie, begins, continues, nears, maxQuery, maxWords, tieNumber, tieDistance, markOf, packed}
 use Rattle.lexer.specs.Tokens.{isRunByte, isInner}
-use Rattle.lexer.specs.Lexing.{Next, done, blank, token, wrong, Operator, operator, no-operator}
+use Rattle.lexer.specs.Lexing.{NextToken, done, blank, token, wrong, Operator, operator, no-operator}
 use Rattle.lexer.specs.declared.Class.{Class}
 use Rattle.lexer.specs.declared.Class.the-variants.{Run, Inner, Word, Name, Digit}
 use Rattle.lexer.specs.declared.Words.{Words}
@@ -28,7 +29,7 @@ inClass Digit b = isDigit b
 -- ---- one more word
 
 -- a word as the arrays hold it
-pub record Entry : Type 0 where
+pub record WordEntry : Type 0 where
   pub bytes : List ℕ
   pub mark : ℕ
   pub columns : ℕ
@@ -47,7 +48,7 @@ hasRoom w bytes = both (ltb (w .count) maxWords) (both (leb (length bytes) maxWo
 abbrev pub placed : List ℕ → ℕ → List ℕ → List ℕ
 placed text at bytes = take at text ++ bytes ++ drop (at + length bytes) text
 
-unfoldable pub added : Words → Entry → Words
+unfoldable pub added : Words → WordEntry → Words
 added w e =
     record {
       text = placed (w .text) (textEnd w) (e .bytes);
@@ -72,24 +73,24 @@ overfull w =
       count = maxWords + 1;
     }
 
-unfoldable pub pushed : Words → Entry → Words
-pushed w e = pick (hasRoom w (e .bytes)) (added w e) (overfull w)
+unfoldable pub pushWord : Words → WordEntry → Words
+pushWord w e = pick (hasRoom w (e .bytes)) (added w e) (overfull w)
 
-unfoldable pub pushAll : Words → List Entry → Words
-pushAll w [] = w
-pushAll w (e ∷ es) = pushAll (pushed w e) es
+unfoldable pub pushWords : Words → List WordEntry → Words
+pushWords w [] = w
+pushWords w (e ∷ es) = pushWords (pushWord w e) es
 
-abbrev pub entry : ℕ → ℕ → ℕ → QueryWord → Entry
+abbrev pub entry : ℕ → ℕ → ℕ → QueryWord → WordEntry
 entry tie distance columns w = record { bytes = w .bytes; mark = markOf w; columns = columns; tie = tie; distance = distance }
 
 -- the words of a phrase whose first is tied as told; the others continue it
-unfoldable pub phraseEntries : ℕ → ℕ → ℕ → List QueryWord → List Entry
+unfoldable pub phraseEntries : ℕ → ℕ → ℕ → List QueryWord → List WordEntry
 phraseEntries tie distance columns [] = []
 phraseEntries tie distance columns (w ∷ ws) = entry tie distance columns w ∷ phraseEntries (tieNumber continues) (tieDistance continues) columns ws
 
 -- ---- one more token
 
--- what ties an operand behind a token
+-- what ties an operand after a token
 abbrev pub nextTie : Token → Tie
 nextTie lparen = begins
 nextTie rparen = begins
@@ -99,11 +100,11 @@ nextTie NOT = begins
 nextTie (NEAR d) = nears d
 nextTie (operand p) = begins
 
-abbrev pub tieBehind : Token → ℕ
-tieBehind t = tieNumber (nextTie t)
+abbrev pub tieAfter : Token → ℕ
+tieAfter t = tieNumber (nextTie t)
 
-abbrev pub distanceBehind : Token → ℕ
-distanceBehind t = tieDistance (nextTie t)
+abbrev pub distanceAfter : Token → ℕ
+distanceAfter t = tieDistance (nextTie t)
 
 -- the kind of all operands
 abbrev pub operandKind : ℕ
@@ -115,11 +116,11 @@ plainSign kind = record { kind = kind; tie = tieNumber begins; distance = tieDis
 
 -- an operator as the arrays hold it; a run that is none is an operand or nothing
 abbrev pub signOf : Operator → Sign
-signOf (operator t) = record { kind = kindOf t; tie = tieBehind t; distance = distanceBehind t }
+signOf (operator t) = record { kind = kindOf t; tie = tieAfter t; distance = distanceAfter t }
 signOf no-operator = plainSign operandKind
 
 -- the words that a token brings
-abbrev pub tokenEntries : ℕ → ℕ → Token → List Entry
+abbrev pub tokenEntries : ℕ → ℕ → Token → List WordEntry
 tokenEntries tie distance lparen = []
 tokenEntries tie distance rparen = []
 tokenEntries tie distance AND = []
@@ -128,7 +129,7 @@ tokenEntries tie distance NOT = []
 tokenEntries tie distance (NEAR n) = []
 tokenEntries tie distance (operand p) = phraseEntries tie distance (p .columns) (p .words)
 
--- the state behind a token of a kind that takes `size` bytes, with the words by then and what ties an operand next
+-- the state after a token of a kind that takes `size` bytes, with the words by then and what ties an operand next
 unfoldable pub withToken : State → ℕ → ℕ → ℕ → Words → ℕ → State
 withToken st kind tie distance words size =
     record {
@@ -141,7 +142,7 @@ withToken st kind tie distance words size =
       distance = distance;
     }
 
--- the state behind a byte of white space
+-- the state after a byte of white space
 unfoldable pub skipped : State → State
 skipped st = record { ok = st .ok; at = st .at + 1; kinds = st .kinds; count = st .count; words = st .words; tie = st .tie; distance = st .distance }
 
@@ -149,12 +150,12 @@ skipped st = record { ok = st .ok; at = st .at + 1; kinds = st .kinds; count = s
 unfoldable pub stopped : State → State
 stopped st = record { ok = false; at = st .at; kinds = st .kinds; count = st .count; words = st .words; tie = st .tie; distance = st .distance }
 
--- the state behind what stands next
-abbrev pub moved : State → Next → State
-moved st done = st
-moved st blank = skipped st
-moved st (token t n) = withToken st (kindOf t) (tieBehind t) (distanceBehind t) (pushAll (st .words) (tokenEntries (st .tie) (st .distance) t)) n
-moved st wrong = stopped st
+-- the state after what stands next
+abbrev pub movedOn : State → NextToken → State
+movedOn st done = st
+movedOn st blank = skipped st
+movedOn st (token t n) = withToken st (kindOf t) (tieAfter t) (distanceAfter t) (pushWords (st .words) (tokenEntries (st .tie) (st .distance) t)) n
+movedOn st wrong = stopped st
 
 -- the state in front of all tokens
 abbrev pub started : State

@@ -10,8 +10,9 @@ use lib.ListN.{length, getD, take, drop, replicate}
 use lib.Dec.{eqb, leb, ltb}
 use Rattle.common.specs.Pick.{pick, both, either}
 use Rattle.common.specs.Bytes.{span, same, within}
-use Rattle.tokenizer.specs.Word.{isWord, isDigit, Place, places, wordAt, maxWord}
-use Rattle.offsets.specs.Names.{isNameByte, columnOf, maxColumns}
+use Rattle.common.specs.Bounds.{maxWord, maxColumns}
+use Rattle.tokenizer.specs.Word.{isWord, isDigit, Place, places, wordAt}
+use Rattle.offsets.specs.Names.{isNameByte, columnOf}
 use Rattle.offsets.specs.declared.Column.{Column}
 use Rattle.offsets.specs.declared.Column.the-variants.{At, Unknown}
 use Rattle.lexer.specs.Token.{QueryWord, anyColumn, onlyColumn, bare, written, Token, lparen, rparen, AND, OR, NOT, NEAR, operand, kindOf, begins, tokenNodes, maxQuery, maxWords, padded, nodeMap, packed}
@@ -45,27 +46,27 @@ abbrev pub lexed : List Token → Lexed
 lexed ts = record { ok = true; kinds = padded maxQuery (kindsOf ts); count = length ts; words = packed (tokenNodes begins ts) }
 
 -- for any other bytes
-abbrev pub refusal : Lexed
-refusal = record { ok = false; kinds = replicate maxQuery 0; count = 0; words = packed [] }
+abbrev pub refusedLex : Lexed
+refusedLex = record { ok = false; kinds = replicate maxQuery 0; count = 0; words = packed [] }
 
 -- what an answer is: accepted exactly for a query, with the query's tokens; else the refusal
 pub record Lexes (names : List (List ℕ)) (s : List ℕ) (r : Lexed) : Type 0 where
   pub accepted : (r .ok ≡ true) ↔ ((ts : List Token) × QueryTokens names s ts)
   pub content : (ts : List Token) → QueryTokens names s ts → r ≡ lexed ts
-  pub otherwise : r .ok ≡ false → r ≡ refusal
+  pub otherwise : r .ok ≡ false → r ≡ refusedLex
 
 -- ---- how the next token is found
 
 -- what stands at the front of the bytes that are left
-pub data Next : Type 0 where
+pub data NextToken : Type 0 where
   -- nothing is left
-  done : Next
+  done : NextToken
   -- a byte of white space
-  blank : Next
+  blank : NextToken
   -- a token, and how many bytes it takes
-  token : Token → ℕ → Next
+  token : Token → ℕ → NextToken
   -- no token
-  wrong : Next
+  wrong : NextToken
 
 -- the word at a place of a phrase's bytes
 abbrev pub wordIn : List ℕ → Place → QueryWord
@@ -78,7 +79,7 @@ phraseWords s = map (wordIn s) (places s)
 abbrev pub phraseOf : List ℕ → ℕ → Token
 phraseOf text columns = operand (record { words = phraseWords text; columns = columns })
 
--- whether bytes are one or more word bytes with an optional `*` behind them
+-- whether bytes are one or more word bytes with an optional `*` after them
 unfoldable pub isStem : List ℕ → Bool
 isStem r =
     both (ltb 0 (span isWord r))
@@ -88,12 +89,12 @@ isStem r =
 unfoldable pub isNearWritten : List ℕ → Bool
 isNearWritten r = both (within 6 9 (length r)) (both (same (take 5 r) bytesNEARSlash) (each isDigit (drop 5 r)))
 
--- a run behind a column's name and `:`
-abbrev pub inColumn : Column → List ℕ → ℕ → Next
+-- a run after a column's name and `:`
+abbrev pub inColumn : Column → List ℕ → ℕ → NextToken
 inColumn (At c) text size = pick (ltb c maxColumns) (token (phraseOf text (onlyColumn c)) size) wrong
 inColumn Unknown text size = wrong
 
-unfoldable pub columnRun : List (List ℕ) → List ℕ → Next
+unfoldable pub columnRun : List (List ℕ) → List ℕ → NextToken
 columnRun names r =
     pick (both (ltb 0 (span isNameByte r)) (eqb (getD r (span isNameByte r) 0) colonByte))
     (pick (isStem (drop (span isNameByte r + 1) r))
@@ -115,18 +116,18 @@ operatorOf r =
     (pick (isNearWritten r) (operator (NEAR (written (decimal (drop 5 r))))) no-operator))))
 
 -- any other run
-unfoldable pub wordNext : List (List ℕ) → List ℕ → Next
+unfoldable pub wordNext : List (List ℕ) → List ℕ → NextToken
 wordNext names r = pick (isStem r) (token (phraseOf r anyColumn) (length r)) (columnRun names r)
 
-abbrev pub operatorOr : Operator → ℕ → Next → Next
+abbrev pub operatorOr : Operator → ℕ → NextToken → NextToken
 operatorOr (operator t) size other = token t size
 operatorOr no-operator size other = other
 
-unfoldable pub runNext : List (List ℕ) → List ℕ → Next
+unfoldable pub runNext : List (List ℕ) → List ℕ → NextToken
 runNext names r = operatorOr (operatorOf r) (length r) (wordNext names r)
 
--- `s` stands behind the opening quote
-unfoldable pub quoteNext : List ℕ → Next
+-- `s` stands after the opening quote
+unfoldable pub quoteNext : List ℕ → NextToken
 quoteNext s =
     pick (ltb (span isInner s) (length s))
     (pick (ltb 0 (length (places (take (span isInner s) s))))
@@ -134,9 +135,9 @@ quoteNext s =
     wrong)
     wrong
 
-unfoldable pub nextOf : List (List ℕ) → List ℕ → Next
-nextOf names [] = done
-nextOf names (b ∷ s) =
+unfoldable pub nextToken : List (List ℕ) → List ℕ → NextToken
+nextToken names [] = done
+nextToken names (b ∷ s) =
     pick (isSpace b) blank
     (pick (eqb b openByte) (token lparen 1)
     (pick (eqb b closeByte) (token rparen 1)
@@ -153,8 +154,8 @@ abbrev pub prepend : Token → Lexing → Lexing
 prepend t (tokens ts) = tokens (t ∷ ts)
 prepend t refused = refused
 
--- go on behind what stands at the front, `rest n` being what comes after n bytes
-abbrev pub andThen : Next → (ℕ → Lexing) → Lexing
+-- go on after what stands at the front, `rest n` being what comes after n bytes
+abbrev pub andThen : NextToken → (ℕ → Lexing) → Lexing
 andThen done rest = tokens []
 andThen blank rest = rest 1
 andThen (token t n) rest = prepend t (rest n)
@@ -163,7 +164,7 @@ andThen wrong rest = refused
 -- with at most `steps` steps
 unfoldable pub lexIn : ℕ → List (List ℕ) → List ℕ → Lexing
 lexIn zero names s = refused
-lexIn (suc steps) names s = andThen (nextOf names s) (λ n. lexIn steps names (drop n s))
+lexIn (suc steps) names s = andThen (nextToken names s) (λ n. lexIn steps names (drop n s))
 
 abbrev pub lexOf : List (List ℕ) → List ℕ → Lexing
 lexOf names s = lexIn (suc (length s)) names s
@@ -175,8 +176,8 @@ abbrev pub isWithin : List Token → Bool
 isWithin ts = both (leb (length (wordSizes ts)) maxWords) (each (λ n. leb n maxWord) (wordSizes ts))
 
 abbrev pub answer : Lexing → Lexed
-answer (tokens ts) = pick (isWithin ts) (lexed ts) refusal
-answer refused = refusal
+answer (tokens ts) = pick (isWithin ts) (lexed ts) refusedLex
+answer refused = refusedLex
 
 abbrev pub lexedOf : List (List ℕ) → List ℕ → Lexed
-lexedOf names s = pick (leb (length s) maxQuery) (answer (lexOf names s)) refusal
+lexedOf names s = pick (leb (length s) maxQuery) (answer (lexOf names s)) refusedLex

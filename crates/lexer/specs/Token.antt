@@ -1,11 +1,10 @@
 -- The tokens of a query (document 01, "The query language"): parentheses, the operators, and the operands, which are
 -- words and quoted phrases. An operand carries all that the query says of it: its words, folded; which of them have a
--- `*` behind them; and the set of columns that it may stand in.
-use Prim.Native.Nat.{ℕ, zero, suc, _+_, _-_, _*_, _/_, _%_, _^_}
-use mathlib.Core.Bool.{Bool, true, false}
+-- `*` after them; and the set of columns that it may stand in.
+use Prim.Native.Nat.{ℕ, _+_, _-_, _^_}
+use mathlib.Core.Bool.{Bool}
 use mathlib.Core.List.{List, [], _∷_, _++_}
 use lib.ListN.{length, replicate}
-use lib.Dec.{eqb}
 use Rattle.common.specs.Pick.{pick}
 use Rattle.lexer.specs.declared.Words.{Words}
 
@@ -14,10 +13,7 @@ pub record QueryWord : Type 0 where
   pub bytes : List ℕ
   pub star : Bool
 
--- A set of columns is a number of 16 bits: column c is in it if bit c is set.
-abbrev pub allows : ℕ → ℕ → Bool
-allows set c = eqb (set / 2 ^ c % 2) 1
-
+-- A set of columns is a number of 16 bits (`contains`).
 abbrev pub anyColumn : ℕ
 anyColumn = 65535
 
@@ -61,7 +57,7 @@ pub data Tie : Type 0 where
   begins : Tie
   -- it is the next word of its phrase
   continues : Tie
-  -- it begins the phrase behind a NEAR
+  -- it begins the phrase after a NEAR
   nears : Distance → Tie
 
 pub record Node : Type 0 where
@@ -108,7 +104,7 @@ tieDistance (nears (written n)) = n
 abbrev pub markOf : QueryWord → ℕ
 markOf w = pick (w .star) 1 0
 
--- values in an array of n elements, zeros behind them
+-- values in an array of n elements, zeros after them
 abbrev pub padded : ℕ → List ℕ → List ℕ
 padded n vs = vs ++ replicate (n - length vs) 0
 

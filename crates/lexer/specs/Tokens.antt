@@ -1,5 +1,5 @@
 -- Which tokens the bytes of a query are (document 01, "The query language"). Outside quotes a run is the longest stretch
--- without white space, parentheses or `"`, and is one token: an operator, or a word with an optional `*` behind it and an
+-- without white space, parentheses or `"`, and is one token: an operator, or a word with an optional `*` after it and an
 -- optional column name and `:` before it. A quoted phrase is split into words as any text is. Nothing here says how
 -- tokens are found: `Tokens names s ts` holds for at most one row of tokens `ts`, which the crate proves.
 use Prim.Native.Nat.{ℕ, _+_, _-_, _*_, _≤_, _<_}
@@ -10,8 +10,9 @@ use lib.ListN.{length}
 use lib.Dec.{eqb}
 use Rattle.common.specs.Pick.{both, either}
 use Rattle.common.specs.Bytes.{within, same}
+use Rattle.common.specs.Bounds.{maxColumns}
 use Rattle.tokenizer.specs.Word.{isWord, isDigit, fold}
-use Rattle.offsets.specs.Names.{isNameByte, ColumnIs, maxColumns}
+use Rattle.offsets.specs.Names.{isNameByte, ColumnIs}
 use Rattle.lexer.specs.Token.{QueryWord, anyColumn, onlyColumn, bare, written, Token, lparen, rparen, AND, OR, NOT, NEAR, operand}
 
 -- ---- bytes
@@ -98,7 +99,7 @@ bytesNEARSlash = 78 ∷ 69 ∷ 65 ∷ 82 ∷ 47 ∷ []
 unfoldable pub isOperator : List ℕ → Bool
 isOperator r = either (same r bytesAND) (either (same r bytesOR) (either (same r bytesNOT) (same r bytesNEAR)))
 
--- the number that decimal digits write, behind digits that write `n`
+-- the number that decimal digits write, after digits that write `n`
 unfoldable pub decimalFrom : ℕ → List ℕ → ℕ
 decimalFrom n [] = n
 decimalFrom n (d ∷ ds) = decimalFrom (n * 10 + (d - 48)) ds

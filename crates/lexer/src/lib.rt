@@ -18,13 +18,14 @@ ghost use lib.ListN.{length, getD, drop};
 ghost use lib.Dec.{eqb, ltb};
 ghost use Rattle.common.specs.Pick.{pick};
 ghost use Rattle.common.specs.Bytes.{span, same};
-ghost use Rattle.tokenizer.specs.Word.{isDigit, fold, places, maxWord};
+ghost use Rattle.common.specs.Bounds.{maxWord, maxColumns};
+ghost use Rattle.tokenizer.specs.Word.{isDigit, fold, places};
 ghost use Rattle.offsets.specs.Cut.{cut};
-ghost use Rattle.offsets.specs.Names.{isNameByte, maxColumns};
+ghost use Rattle.offsets.specs.Names.{isNameByte};
 ghost use Rattle.lexer.specs.Token.{onlyColumn, maxQuery, maxWords, packed};
 ghost use Rattle.lexer.specs.Tokens.{isSpace, isRunByte, starByte, each, decimal};
-ghost use Rattle.lexer.specs.Lexing.{isStem, isNearWritten, phraseWords, phraseOf, token, columnRun, operatorOf, runNext, quoteNext, nextOf, refusal, lexedOf, Lexes};
-ghost use Rattle.lexer.specs.Filling.{inClass, textEnd, placed, overfull, pushed, pushAll, phraseEntries, plainSign, signOf, withToken, skipped, stopped, moved, started};
+ghost use Rattle.lexer.specs.Lexing.{isStem, isNearWritten, phraseWords, phraseOf, token, columnRun, operatorOf, runNext, quoteNext, nextToken, refusedLex, lexedOf, Lexes};
+ghost use Rattle.lexer.specs.Filling.{inClass, textEnd, placed, overfull, pushWord, pushWords, phraseEntries, plainSign, signOf, withToken, skipped, stopped, movedOn, started};
 
 // A query has at most 512 bytes.
 pub const MAX_QUERY: usize = 512;
@@ -48,7 +49,7 @@ pub const NEAR: u8 = 5;
 pub const OPERAND: u8 = 6;
 
 // How a word is tied to the one before: it begins an operand of AND, OR or NOT, is the next word of its phrase, or
-// begins the phrase behind a NEAR without or with a number.
+// begins the phrase after a NEAR without or with a number.
 pub const BEGINS: u8 = 0;
 
 pub const CONTINUES: u8 = 1;
@@ -71,7 +72,7 @@ const CARRIAGE_RETURN: u8 = 13;
 // Bytes from 128 up are no ASCII.
 const ASCII_END: u8 = 128;
 
-// `NEAR/` has 5 bytes, and 1 to 4 digits stand behind it.
+// `NEAR/` has 5 bytes, and 1 to 4 digits stand after it.
 const NEAR_SLASH: usize = 5;
 
 const MIN_NEAR: usize = 6;
@@ -84,7 +85,7 @@ pub struct Words {
     pub text: [u8; MAX_QUERY],
     // Where each word's bytes end in `text`.
     pub ends: [u16; MAX_WORDS],
-    // 1 for a word with a `*` behind it.
+    // 1 for a word with a `*` after it.
     pub marks: [u8; MAX_WORDS],
     // The set of columns that each word's phrase may stand in, a bit for each column.
     pub columns: [u16; MAX_WORDS],
@@ -105,7 +106,7 @@ pub struct Lexed {
     pub words: Words,
 }
 
-// What the lexer knows behind some of the tokens.
+// What the lexer knows after some of the tokens.
 struct State {
     // Whether all bytes up to `at` are tokens.
     ok: bool,
@@ -118,7 +119,7 @@ struct State {
     distance: u16,
 }
 
-// A token's kind, and what it ties an operand behind it by.
+// A token's kind, and what it ties an operand after it by.
 struct Sign {
     kind: u8,
     tie: u8,
@@ -161,27 +162,6 @@ fn is_run_byte(b: u8) -> bool
     b != b'"'
 }
 
-fn is_name_byte(b: u8) -> bool
-    ensures { λ r. ⌜ r ≡ isNameByte b ⌝ }
-{
-    if b == b'_' {
-        return true;
-    }
-    if ASCII_END <= b {
-        return false;
-    }
-    tokenizer::is_word(b)
-}
-
-fn is_digit(b: u8) -> bool
-    ensures { λ r. ⌜ r ≡ isDigit b ⌝ }
-{
-    if b < b'0' {
-        return false;
-    }
-    b <= b'9'
-}
-
 fn in_class(class: Class, b: u8) -> bool
     ensures { λ r. ⌜ r ≡ inClass class b ⌝ }
 {
@@ -189,8 +169,8 @@ fn in_class(class: Class, b: u8) -> bool
         Class::Run => is_run_byte(b),
         Class::Inner => b != b'"',
         Class::Word => tokenizer::is_word(b),
-        Class::Name => is_name_byte(b),
-        Class::Digit => is_digit(b),
+        Class::Name => offsets::is_name_byte(b),
+        Class::Digit => tokenizer::is_digit(b),
     }
 }
 
@@ -208,24 +188,7 @@ fn stretch(class: Class, s: &[u8]) -> usize
     i
 }
 
-// Whether two byte strings are the same.
-fn is_same(s: &[u8], t: &[u8]) -> bool
-    ensures { λ r. ⌜ r ≡ same (now (s .entry)) (now (t .entry)) ⌝ }
-{
-    if s.len() != t.len() {
-        return false;
-    }
-    let mut i = 0;
-    while i < s.len() {
-        if s[i] != t[i] {
-            return false;
-        }
-        i += 1;
-    }
-    true
-}
-
-// Whether bytes are a word with an optional `*` behind it.
+// Whether bytes are a word with an optional `*` after it.
 fn is_stem(s: &[u8]) -> bool
     ensures { λ r. ⌜ r ≡ isStem (now (s .entry)) ⌝ }
 {
@@ -252,7 +215,7 @@ fn is_near_written(s: &[u8]) -> bool
     if MAX_NEAR < s.len() {
         return false;
     }
-    if !is_same(&s[..NEAR_SLASH], b"NEAR/") {
+    if !common::is_same(&s[..NEAR_SLASH], b"NEAR/") {
         return false;
     }
     let digits = &s[NEAR_SLASH..];
@@ -335,7 +298,7 @@ fn overfilled(words: Words) -> Words
 // The words with one more.
 fn push(words: Words, s: &[u8], mark: u8, columns: u16, tie: u8, distance: u16) -> Words
     requires { ⌜ length (now s) ≤ maxWord ⌝ }
-    ensures { λ r. ⌜ r ≡ pushed words (record { bytes = map fold (now (s .entry)); mark = mark; columns = columns; tie = tie; distance = distance }) ⌝ }
+    ensures { λ r. ⌜ r ≡ pushWord words (record { bytes = map fold (now (s .entry)); mark = mark; columns = columns; tie = tie; distance = distance }) ⌝ }
 {
     let n = words.count;
     if MAX_WORDS <= n {
@@ -374,7 +337,7 @@ fn mark_at(s: &[u8], i: usize) -> u8
 
 // The words with those of a phrase.
 fn push_phrase(words: Words, s: &[u8], columns: u16, tie: u8, distance: u16) -> Words
-    ensures { λ r. ⌜ r ≡ pushAll words (phraseEntries tie distance columns (phraseWords (now (s .entry)))) ⌝ }
+    ensures { λ r. ⌜ r ≡ pushWords words (phraseEntries tie distance columns (phraseWords (now (s .entry)))) ⌝ }
 {
     let mut w = words;
     let mut t = tie;
@@ -412,7 +375,7 @@ fn has_word(s: &[u8]) -> bool
     }
 }
 
-// The state behind a byte of white space.
+// The state after a byte of white space.
 fn skip(st: State) -> State
     requires { ⌜ st .at < maxQuery ⌝ }
     ensures { λ r. ⌜ r ≡ skipped st ⌝ }
@@ -431,7 +394,7 @@ fn stop(st: State) -> State
     t
 }
 
-// The state behind a token of a kind that takes `size` bytes, and what ties an operand that comes next.
+// The state after a token of a kind that takes `size` bytes, and what ties an operand that comes next.
 fn with_kind(st: State, kind: u8, tie: u8, distance: u16, size: usize) -> State
     requires { ⌜ (st .count < maxQuery) × (st .at + size ≤ maxQuery) ⌝ }
     ensures { λ r. ⌜ r ≡ withToken st kind tie distance (st .words) size ⌝ }
@@ -446,10 +409,10 @@ fn with_kind(st: State, kind: u8, tie: u8, distance: u16, size: usize) -> State
     t
 }
 
-// The state behind an operand that takes `size` bytes and has the words of `s`.
+// The state after an operand that takes `size` bytes and has the words of `s`.
 fn with_phrase(st: State, s: &[u8], columns: u16, size: usize) -> State
     requires { ⌜ (st .count < maxQuery) × (st .at + size ≤ maxQuery) ⌝ }
-    ensures { λ r. ⌜ r ≡ moved st (token (phraseOf (now (s .entry)) columns) size) ⌝ }
+    ensures { λ r. ⌜ r ≡ movedOn st (token (phraseOf (now (s .entry)) columns) size) ⌝ }
 {
     let words = st.words;
     let pushed = push_phrase(words, s, columns, st.tie, st.distance);
@@ -458,10 +421,10 @@ fn with_phrase(st: State, s: &[u8], columns: u16, size: usize) -> State
     t
 }
 
-// The state behind a quoted phrase; `s` follows its opening quote, and both quotes are counted.
+// The state after a quoted phrase; `s` follows its opening quote, and both quotes are counted.
 fn quote_step(st: State, s: &[u8]) -> State
     requires { ⌜ (st .count < maxQuery) × (st .at + 1 + length (now s) ≤ maxQuery) ⌝ }
-    ensures { λ r. ⌜ r ≡ moved st (quoteNext (now (s .entry))) ⌝ }
+    ensures { λ r. ⌜ r ≡ movedOn st (quoteNext (now (s .entry))) ⌝ }
 {
     let close = stretch(Class::Inner, s);
     if s.len() <= close {
@@ -474,10 +437,10 @@ fn quote_step(st: State, s: &[u8]) -> State
     with_phrase(st, inner, ANY_COLUMN, close + 2)
 }
 
-// The state behind a run that is a word with a column's name and `:` in front.
+// The state after a run that is a word with a column's name and `:` in front.
 fn column_step(names: &[u8], ends: &[u32], st: State, s: &[u8]) -> State
     requires { ⌜ (st .count < maxQuery) × (st .at + length (now s) ≤ maxQuery) ⌝ }
-    ensures { λ r. ⌜ r ≡ moved st (columnRun (cut (now (names .entry)) (now (ends .entry))) (now (s .entry))) ⌝ }
+    ensures { λ r. ⌜ r ≡ movedOn st (columnRun (cut (now (names .entry)) (now (ends .entry))) (now (s .entry))) ⌝ }
 {
     let n = stretch(Class::Name, s);
     if n == 0 {
@@ -497,7 +460,7 @@ fn column_step(names: &[u8], ends: &[u32], st: State, s: &[u8]) -> State
     let offsets::Column::At(c) = column else {
         return stop(st);
     };
-    if offsets::MAX_COLUMNS <= c {
+    if common::MAX_COLUMNS <= c {
         return stop(st);
     }
     with_phrase(st, text, only_column(c), s.len())
@@ -518,16 +481,16 @@ fn plain(kind: u8) -> Sign
 fn operator_of(s: &[u8]) -> Sign
     ensures { λ r. ⌜ r ≡ signOf (operatorOf (now (s .entry))) ⌝ }
 {
-    if is_same(s, b"AND") {
+    if common::is_same(s, b"AND") {
         return plain(AND);
     }
-    if is_same(s, b"OR") {
+    if common::is_same(s, b"OR") {
         return plain(OR);
     }
-    if is_same(s, b"NOT") {
+    if common::is_same(s, b"NOT") {
         return plain(NOT);
     }
-    if is_same(s, b"NEAR") {
+    if common::is_same(s, b"NEAR") {
         return Sign {
             kind: NEAR,
             tie: NEARS,
@@ -545,10 +508,10 @@ fn operator_of(s: &[u8]) -> Sign
     plain(OPERAND)
 }
 
-// The state behind a run.
+// The state after a run.
 fn run_step(names: &[u8], ends: &[u32], st: State, s: &[u8]) -> State
     requires { ⌜ (st .count < maxQuery) × (st .at + length (now s) ≤ maxQuery) ⌝ }
-    ensures { λ r. ⌜ r ≡ moved st (runNext (cut (now (names .entry)) (now (ends .entry))) (now (s .entry))) ⌝ }
+    ensures { λ r. ⌜ r ≡ movedOn st (runNext (cut (now (names .entry)) (now (ends .entry))) (now (s .entry))) ⌝ }
 {
     let o = operator_of(s);
     if o.kind != OPERAND {
@@ -560,10 +523,10 @@ fn run_step(names: &[u8], ends: &[u32], st: State, s: &[u8]) -> State
     column_step(names, ends, st, s)
 }
 
-// The state behind what stands next.
+// The state after what stands next.
 fn step(names: &[u8], ends: &[u32], st: State, s: &[u8]) -> State
     requires { ⌜ (length (now s) ≤ maxQuery) × (st .at < length (now s)) × (st .count < maxQuery) ⌝ }
-    ensures { λ r. ⌜ r ≡ moved st (nextOf (cut (now (names .entry)) (now (ends .entry))) (drop (st .at) (now (s .entry)))) ⌝ }
+    ensures { λ r. ⌜ r ≡ movedOn st (nextToken (cut (now (names .entry)) (now (ends .entry))) (drop (st .at) (now (s .entry)))) ⌝ }
 {
     let at = st.at;
     let b = s[at];
@@ -602,7 +565,7 @@ fn start() -> State
 
 // The answer for bytes that are no query.
 fn refused() -> Lexed
-    ensures { λ r. ⌜ r ≡ refusal ⌝ }
+    ensures { λ r. ⌜ r ≡ refusedLex ⌝ }
 {
     let words = no_words();
     Lexed {

@@ -1,20 +1,13 @@
 -- The entry of a docid in one leaf is one, and inside it; of the answers of a lookup in two leaves exactly one is right
 -- (`deciding-exact`).
-use Prim.Native.Nat.{ℕ, suc, _+_, _≤_, _<_}
+use Prim.Native.Nat.{ℕ, _+_, _≤_, _<_}
 use native.Mathlib.Omega.{arith}
 use mathlib.Core.Path.{_≡_, refl, sym, ap, ap₂, _∙_, subst}
 use mathlib.Core.Logic.{_↔_, inl, inr, ⊎-elim}
 use mathlib.Core.List.{List, [], _∷_}
-use mathlib.Core.Bool.{true, false}
-use lib.IntN.{ℤ, pos, negsuc, natAbs, pos-ne-negsuc}
-use lib.Signed.{leZ, nonNeg}
-use lib.Dec.{T}
+use lib.IntN.{ℤ, natAbs}
 use lib.ListN.{length}
-use borrow.Author.Tests.{le-leb}
-use mir.Syntax.{w64}
-use mir.Val.{Fits, SFits}
 use denote.Enum.Declared.{tagOf}
-use Rattle.common.proofs.Cases.{false-not-true}
 use Rattle.common.specs.Bytes.{part}
 use Rattle.common.specs.Refusals.{numbers, Exclusive, Numbered}
 use Rattle.common.proofs.Refusals.{number-differs, second-differs}
@@ -26,22 +19,22 @@ use Rattle.doclist.specs.declared.EntryAt.the-variants.{At, Absent, Refused}
 use Rattle.doclist.proofs.Places.{place-not-refused, placed, placed-within}
 use Rattle.leaf.specs.Leaf as leaf
 use Rattle.leaf.specs.Leaf.{Term, encodeLeaf, LeafIs, IsLeaf, NoLeaf, ListIs, NoTerm}
-use Rattle.leaf.specs.Answers.{CheckShape, CheckIs}
+use Rattle.leaf.specs.Answers.{CheckShape}
 use Rattle.leaf.specs.declared.LeafCheck.{LeafCheck}
 use Rattle.leaf.specs.declared.LeafCheck.the-variants.{Accepted}
 use Rattle.leaf.proofs.LeafCheck as leaf-check
-use Rattle.leaf.proofs.Checks.{leaves-exclusive, leaves-numbered}
+use Rattle.leaf.proofs.Checks.{leaves-exclusive, leaves-numbered, CheckPromise}
 use Rattle.leaf.proofs.Checks as check
 use Rattle.leaf.proofs.Once.{term-once, list-once, list-not-none, list-good, list-part}
+use Rattle.leaf.proofs.Laws.{same-terms}
 use Rattle.lookup.specs.Words.{WordFound}
 use Rattle.lookup.specs.declared.WordAnswer.the-variants as word
 use Rattle.lookup.specs.declared.WordAnswer.{WordAnswer}
-use Rattle.lookup.specs.Entries.{EntryIs, NoEntry, EntryFound, DecidingShape, LeavesAre, Decides, decidingNumbers, decidingRefusals, DecidingIs, entryPart}
+use Rattle.lookup.specs.Entries.{EntryIs, NoEntry, EntryFound, DecidingShape, BothLeaves, Decides, decidingNumbers, decidingRefusals, DecidingIs, entryPart}
 use Rattle.lookup.specs.declared.EntryAnswer.{EntryAnswer}
 use Rattle.lookup.specs.declared.EntryAnswer.the-variants.{Newer, Older, Nothing, Shape, NewerBroken, OlderBroken}
 use Rattle.lookup.proofs.WordAnswer as word-answer
 use Rattle.lookup.proofs.EntryAnswer as entry-answer
-use Rattle.lookup.proofs.WordLaws.{same-terms}
 use types.Run.{OneOf, miss}
 
 -- ---- the entry of a docid in one leaf
@@ -126,38 +119,18 @@ module _ (count : ℕ) (leaf : List ℕ) {ts : List Term} {sought : List ℕ} {f
 
 -- ---- the docid
 
-pub not-negative : (d : ℤ) → leZ (pos 0) d ≡ true → d ≡ pos (natAbs d)
-not-negative (pos n) e = refl
-not-negative (negsuc n) e = false-not-true e
-
-pub natural-tested : (d : ℤ) → d ≡ pos (natAbs d) → leZ (pos 0) d ≡ true
-natural-tested (pos n) e = le-leb 0 n (omega arith)
-natural-tested (negsuc n) e = absurd (pos-ne-negsuc (suc n) n (sym e))
-
--- so it is the same number without a sign
-pub unsigned : (d : ℤ) → SFits w64 d → d ≡ pos (natAbs d) → T (nonNeg d) × Fits w64 (natAbs d)
-unsigned (pos n) f e = (tt, record { fits = omega (arith, f .sfits) })
-unsigned (negsuc n) f e = absurd (pos-ne-negsuc (suc n) n (sym e))
-
 -- ---- whether number 1 is due
 
-pub refuted : {X : Type 0} → (X → ⊥) → (false ≡ true) ↔ X
-refuted n = (λ e. false-not-true e, λ x. absurd (n x))
-
 -- ---- the check of each leaf
-
--- what `leaf::check` promises
-abbrev Checked : ℕ → List ℕ → LeafCheck → Type 0
-Checked count bytes r = (a : LeafCheck) → (r ≡ a) ↔ CheckIs count bytes a
 
 not-accepted : (r : LeafCheck) → OneOf (1 ∷ 2 ∷ []) (tagOf leaf-check.the-type r) → r ≡ Accepted → ⊥
 not-accepted r k e = miss (1 ∷ 2 ∷ []) 0 tt (subst (λ (x : LeafCheck). OneOf (1 ∷ 2 ∷ []) (tagOf leaf-check.the-type x)) e k)
 
-pub refused-no-leaf : (count : ℕ) (bytes : List ℕ) (r : LeafCheck) → CheckShape count bytes → Checked count bytes r
+pub refused-no-leaf : (count : ℕ) (bytes : List ℕ) (r : LeafCheck) → CheckShape count bytes → CheckPromise count bytes r
     → OneOf (1 ∷ 2 ∷ []) (tagOf leaf-check.the-type r) → NoLeaf count bytes
 refused-no-leaf count bytes r h c k ts l = not-accepted r k (c Accepted .1 (check.accepted-exactly count bytes .1 (h, (ts, l))))
 
-pub accepted-leaf : (count : ℕ) (bytes : List ℕ) (r : LeafCheck) → Checked count bytes r → r ≡ Accepted → IsLeaf count bytes
+pub accepted-leaf : (count : ℕ) (bytes : List ℕ) (r : LeafCheck) → CheckPromise count bytes r → r ≡ Accepted → IsLeaf count bytes
 accepted-leaf count bytes r c e = check.accepted-exactly count bytes .0 (c Accepted .0 e) .1
 
 -- ---- one answer is right
@@ -168,17 +141,17 @@ module _ (columns : ℕ) (newer older sought : List ℕ) (docid : ℤ) where
 
   -- what each answer comes to
   abbrev pub DecidingClaim : EntryAnswer → Type 0
-  DecidingClaim (Newer start size) = Right × ((ts us : List Term) × LeavesAre columns newer older ts us × EntryIs ts sought (natAbs docid) start size)
+  DecidingClaim (Newer start size) = Right × ((ts us : List Term) × BothLeaves columns newer older ts us × EntryIs ts sought (natAbs docid) start size)
   DecidingClaim (Older start size) =
-      Right × ((ts us : List Term) × LeavesAre columns newer older ts us × NoEntry ts sought (natAbs docid) × EntryIs us sought (natAbs docid) start size)
+      Right × ((ts us : List Term) × BothLeaves columns newer older ts us × NoEntry ts sought (natAbs docid) × EntryIs us sought (natAbs docid) start size)
   DecidingClaim Nothing =
-      Right × ((ts us : List Term) × LeavesAre columns newer older ts us × NoEntry ts sought (natAbs docid) × NoEntry us sought (natAbs docid))
+      Right × ((ts us : List Term) × BothLeaves columns newer older ts us × NoEntry ts sought (natAbs docid) × NoEntry us sought (natAbs docid))
   DecidingClaim Shape = Right → ⊥
   DecidingClaim NewerBroken = Right × NoLeaf columns newer
   DecidingClaim OlderBroken = Right × IsLeaf columns newer × NoLeaf columns older
 
   -- with the terms of both leaves at hand, the claim of an answer that decides holds
-  pub decides-claim : (ts us : List Term) → DecidingShape columns newer older sought docid → LeavesAre columns newer older ts us → (r : EntryAnswer)
+  pub decides-claim : (ts us : List Term) → DecidingShape columns newer older sought docid → BothLeaves columns newer older ts us → (r : EntryAnswer)
       → Decides ts us sought (natAbs docid) r → DecidingClaim r
   decides-claim ts us h l (Newer start size) d = (h, (ts, us, l, d))
   decides-claim ts us h l (Older start size) d = (h, (ts, us, l, d .0, d .1))
@@ -188,7 +161,7 @@ module _ (columns : ℕ) (newer older sought : List ℕ) (docid : ℤ) where
   decides-claim ts us h l OlderBroken d = absurd d
 
   -- two answers about the terms of the leaves
-  module _ (h : DecidingShape columns newer older sought docid) {ts us vs ws : List Term} (l : LeavesAre columns newer older ts us) (m : LeavesAre columns newer older vs ws) where
+  module _ (h : DecidingShape columns newer older sought docid) {ts us vs ws : List Term} (l : BothLeaves columns newer older ts us) (m : BothLeaves columns newer older vs ws) where
     newer-same : vs ≡ ts
     newer-same = same-terms columns newer vs ts (omega (arith, h .size)) (m .0) (l .0)
 
@@ -212,7 +185,7 @@ module _ (columns : ℕ) (newer older sought : List ℕ) (docid : ℤ) where
     older-not a n e f = subst (λ (x : List Term). NoEntry x sought (natAbs docid)) older-same f a n e
 
   -- and one whose claim holds decides
-  pub claim-decides : (ts us : List Term) → DecidingShape columns newer older sought docid → LeavesAre columns newer older ts us → (r : EntryAnswer)
+  pub claim-decides : (ts us : List Term) → DecidingShape columns newer older sought docid → BothLeaves columns newer older ts us → (r : EntryAnswer)
       → DecidingClaim r → Decides ts us sought (natAbs docid) r
   claim-decides ts us h l (Newer start size) p = subst (λ (x : List Term). EntryIs x sought (natAbs docid) start size) (newer-same h l (p .1 .2)) (p .1 .3)
   claim-decides ts us h l (Older start size) p = (
@@ -286,7 +259,7 @@ module _ (columns : ℕ) (newer older sought : List ℕ) (docid : ℤ) where
   decided : {r : EntryAnswer} → Is r → decidingNumbers r .number ≡ 0 → DecidingClaim r
   decided {r} d e =
       let k = accepted-exactly d .0 e in
-      let l : LeavesAre columns newer older (k .1 .0) (k .2 .0) = (k .1 .1, k .2 .1) in
+      let l : BothLeaves columns newer older (k .1 .0) (k .2 .0) = (k .1 .1, k .2 .1) in
       decides-claim (k .1 .0) (k .2 .0) (k .0) l r (d .decides (k .1 .0) (k .2 .0) (k .0) l)
 
   is-claim : (r : EntryAnswer) → Is r → DecidingClaim r
@@ -321,7 +294,7 @@ module _ (columns : ℕ) (newer older sought : List ℕ) (docid : ℤ) where
       (d .answered)
 
   -- the claim of an answer with number 0
-  claim-decided : {ts us : List Term} (r : EntryAnswer) → Right → LeavesAre columns newer older ts us → DecidingClaim r → decidingNumbers r ≡ numbers 0 (decidingNumbers r .second) → Is r
+  claim-decided : {ts us : List Term} (r : EntryAnswer) → Right → BothLeaves columns newer older ts us → DecidingClaim r → decidingNumbers r ≡ numbers 0 (decidingNumbers r .second) → Is r
   claim-decided {ts} {us} r h l p e =
       record { answered = inr (h, inr ((ts, l .0), inr ((us, l .1), e))); decides = λ vs ws g m. claim-decides vs ws g m r p }
 

@@ -11,7 +11,7 @@ use lib.Seq.{take-suc, drop-cons, length-take-le, take-all}
 use borrow.Author.Tests.{eq-eqb, ne-eqb}
 use Rattle.common.proofs.Cases.{same-or}
 use Rattle.leaf.specs.Leaf.{Before, shared}
-use Rattle.leaf.proofs.Words.{parted}
+use Rattle.leaf.proofs.Words.{parted, shared-most}
 use Rattle.lookup.specs.Order.{OrderIs, SharedMost, StandsIs}
 use Rattle.lookup.specs.declared.Order.{Order}
 use Rattle.lookup.specs.declared.Order.the-variants.{Less, Equal, Greater}
@@ -26,7 +26,7 @@ shared-front : (u x y : List ℕ) → shared (u ++ x) (u ++ y) ≡ length u + sh
 shared-front [] x y = omega arith
 shared-front (a ∷ u) x y = let k = shared-front u x y in simp (eq-eqb a a refl) (omega arith)
 
--- an order behind a front of `n` bytes
+-- an order after a front of `n` bytes
 abbrev pub shift : ℕ → Order → Order
 shift n (Less m) = Less (n + m)
 shift n Equal = Equal
@@ -73,14 +73,6 @@ module _ (v w : List ℕ) (i : ℕ) (a : i ≤ length v) (b : i ≤ length w) (e
 
 -- ---- what is shared
 
-pub shared-most : (v w : List ℕ) → shared v w ≤ length w
-shared-most [] w = omega arith
-shared-most (a ∷ v) [] = omega arith
-shared-most (a ∷ v) (b ∷ w) =
-    same-or a b
-    (λ e. let k = shared-most v w in simp (eq-eqb a b e) (omega arith))
-    (λ n. simp (ne-eqb a b n) (omega arith))
-
 pub order-most : (v w : List ℕ) (r : Order) → OrderIs v w r → SharedMost (length w) r
 order-most v w (Less n) h = omega (arith, shared-most v w, h .1)
 order-most v w Equal h = tt
@@ -88,7 +80,7 @@ order-most v w Greater h = tt
 
 -- ---- the next word of a leaf, and the one sought
 
--- the next word leaves the word before while the one sought still agrees with it: it comes behind
+-- the next word leaves the word before while the one sought still agrees with it: it comes after
 leaves-first : (b s t : List ℕ) → Before b t → shared b t < shared b s → Before s t
 leaves-first [] s t h l = absurd (omega arith)
 leaves-first (x ∷ b) [] t h l = absurd (omega arith)

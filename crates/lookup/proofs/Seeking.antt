@@ -11,7 +11,7 @@ use Rattle.leaf.specs.Leaf.{Term, Before, shared, encodeTerms, encodeLeaf, Leaf
 use Rattle.leaf.specs.Reading.{firstWord, headAt}
 use Rattle.leaf.specs.Rest.{RestIs}
 use Rattle.leaf.specs.declared.Head.the-variants as head
-use Rattle.leaf.proofs.Words.{before-irrefl}
+use Rattle.leaf.proofs.Words.{before-some, before-irrefl}
 use Rattle.leaf.proofs.Heads.{head-sound}
 use Rattle.leaf.proofs.Rest.{Meets, leaf-rest, head-complete, head-not-refused, none-left}
 use Rattle.leaf.proofs.Once.{passed-over, no-term-append}
@@ -19,7 +19,7 @@ use Rattle.lookup.specs.Order.{OrderIs, StandsIs}
 use Rattle.lookup.specs.declared.Order.{Order}
 use Rattle.lookup.specs.declared.Order.the-variants.{Less, Equal, Greater}
 
--- the walk is at `i`: the terms `done` have other words, and `rest` are stored from there on, behind a word that comes
+-- the walk is at `i`: the terms `done` have other words, and `rest` are stored from there on, after a word that comes
 -- before the one sought and shares `same` bytes with it
 pub record Seeking (count : ℕ) (s word : List ℕ) (ts : List Term) (i same : ℕ) : Type 0 where
   pub done : List Term
@@ -39,14 +39,10 @@ seeking-start count s word ts h l =
       before = [];
       stands = refl;
       none = tt;
-      earlier = not-empty word h;
+      earlier = before-some word h;
       shares = refl;
       here = leaf-rest count s ts [] (l .good) (l .bytes ∙ sym (append-nil (encodeLeaf ts)));
     }
-  where
-    not-empty : (word : List ℕ) → 0 < length word → Before [] word
-    not-empty [] h = absurd (omega arith)
-    not-empty (b ∷ word) h = tt
 
 module _ (count : ℕ) (s word : List ℕ) (ts : List Term) (i same : ℕ) (small : length s < 2 ^ 63) (k : Seeking count s word ts i same) where
   pub seeking-end : length s ≤ i → NoTerm ts word

@@ -3,7 +3,7 @@
 -- `broken-exactly`).
 use Prim.Native.Nat.{ℕ, _+_, _≤_}
 use native.Mathlib.Omega.{arith}
-use mathlib.Core.Path.{_≡_, refl, sym, ap, ap₂, _∙_, subst}
+use mathlib.Core.Path.{_≡_, refl, ap, ap₂, subst}
 use mathlib.Core.Logic.{_↔_, inl, inr, ⊎-elim}
 use mathlib.Core.List.{List, [], _∷_}
 use lib.ListN.{length}
@@ -12,8 +12,7 @@ use Rattle.common.specs.Refusals.{Exclusive, Numbered}
 use Rattle.common.proofs.Refusals.{number-differs}
 use Rattle.common.proofs.Refusals as refusals
 use Rattle.leaf.specs.Leaf.{Term, LeafIs, IsLeaf, NoLeaf, ListIs, NoTerm}
-use Rattle.leaf.specs.Answers.{maxLeaves}
-use Rattle.leaf.proofs.Laws.{leaf-unique}
+use Rattle.leaf.proofs.Laws.{same-terms}
 use Rattle.leaf.proofs.Checks.{leaves-exclusive, leaves-numbered}
 use Rattle.leaf.proofs.Once.{list-once, list-not-none}
 use Rattle.lookup.specs.Words.{LookupShape, wordNumbers, wordRefusals, WordFound, WordIs, wordPart}
@@ -21,11 +20,6 @@ use Rattle.lookup.specs.declared.WordAnswer.{WordAnswer}
 use Rattle.lookup.specs.declared.WordAnswer.the-variants.{Found, Nothing, Shape, Broken}
 use Rattle.lookup.proofs.WordAnswer.{the-type}
 use types.Run.{OneOf, miss}
-
--- a leaf has one content
-pub same-terms : (columns : ℕ) (leaf : List ℕ) (ts us : List Term) → length leaf ≤ maxLeaves → LeafIs columns leaf ts → LeafIs columns leaf us → ts ≡ us
-same-terms columns leaf ts us h l m =
-    leaf-unique columns ts us (omega (arith, ap length (l .bytes))) (l .good) (m .good) (sym (l .bytes) ∙ m .bytes)
 
 module _ (columns : ℕ) (leaf word : List ℕ) where
   pub refusals-exclusive : Exclusive (wordRefusals columns leaf word)

@@ -7,11 +7,12 @@ use lib.IntN.{ℤ, pos, natAbs}
 use lib.ListN.{length}
 use Rattle.common.specs.Bytes.{part}
 use Rattle.common.specs.Refusals.{Numbers, numbers, Refusal, FirstDue, shapeRefusal}
-use Rattle.doclist.specs.Doclist.{maxColumns, entryPlace}
+use Rattle.common.specs.Bounds.{maxColumns, maxIndexBytes}
+use Rattle.doclist.specs.Doclist.{entryPlace}
 use Rattle.doclist.specs.declared.EntryAt.{EntryAt}
 use Rattle.doclist.specs.declared.EntryAt.the-variants.{At, Absent, Refused}
 use Rattle.leaf.specs.Leaf.{Term, LeafIs, ListIs}
-use Rattle.leaf.specs.Answers.{maxLeaves, leafRefusals}
+use Rattle.leaf.specs.Answers.{leafRefusals}
 use Rattle.lookup.specs.Words.{WordShape}
 use Rattle.lookup.specs.declared.EntryAnswer.{EntryAnswer}
 use Rattle.lookup.specs.declared.EntryAnswer.the-variants.{Newer, Older, Nothing, Shape, NewerBroken, OlderBroken}
@@ -44,13 +45,13 @@ EntryFound ts word docid Refused = ⊥
 pub record DecidingShape (columns : ℕ) (newer older word : List ℕ) (docid : ℤ) : Type 0 where
   pub some : 1 ≤ columns
   pub few : columns ≤ maxColumns
-  pub size : length newer + length older ≤ maxLeaves
+  pub size : length newer + length older ≤ maxIndexBytes
   pub word-right : WordShape word
   pub natural : docid ≡ pos (natAbs docid)
 
 -- the two leaves have these terms
-abbrev pub LeavesAre : ℕ → List ℕ → List ℕ → List Term → List Term → Type 0
-LeavesAre columns newer older ts us = LeafIs columns newer ts × LeafIs columns older us
+abbrev pub BothLeaves : ℕ → List ℕ → List ℕ → List Term → List Term → Type 0
+BothLeaves columns newer older ts us = LeafIs columns newer ts × LeafIs columns older us
 
 -- what an answer says of the terms of two accepted leaves
 abbrev pub Decides : List Term → List Term → List ℕ → ℕ → EntryAnswer → Type 0
@@ -82,7 +83,7 @@ decidingRefusals columns newer older word docid =
 -- what an answer claims: the first refusal that is due; where none is, the entry that decides
 pub record DecidingIs (columns : ℕ) (newer older word : List ℕ) (docid : ℤ) (r : EntryAnswer) : Type 0 where
   pub answered : FirstDue (decidingRefusals columns newer older word docid) (numbers 0 (decidingNumbers r .second)) (decidingNumbers r)
-  pub decides : (ts us : List Term) → DecidingShape columns newer older word docid → LeavesAre columns newer older ts us → Decides ts us word (natAbs docid) r
+  pub decides : (ts us : List Term) → DecidingShape columns newer older word docid → BothLeaves columns newer older ts us → Decides ts us word (natAbs docid) r
 
 -- ---- the part
 

@@ -1,5 +1,5 @@
 -- How one word stands to another in the byte order of leaves: before it, with so many bytes shared from the start; the
--- same; or behind it. A word of a leaf is stored as what it adds to the word before, so its order to a word that is
+-- same; or after it. A word of a leaf is stored as what it adds to the word before, so its order to a word that is
 -- sought is known from its suffix alone, once it is known how many bytes the word before shares with the one sought.
 use Prim.Native.Nat.{ℕ, _≤_}
 use mathlib.Core.Path.{_≡_}

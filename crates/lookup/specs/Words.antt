@@ -6,7 +6,8 @@ use mathlib.Core.List.{List, [], _∷_}
 use lib.ListN.{length}
 use Rattle.common.specs.Bytes.{part}
 use Rattle.common.specs.Refusals.{Numbers, numbers, Refusal, FirstDue, shapeRefusal}
-use Rattle.leaf.specs.Leaf.{Term, maxWord, LeafIs, ListIs, NoTerm}
+use Rattle.common.specs.Bounds.{maxWord}
+use Rattle.leaf.specs.Leaf.{Term, LeafIs, ListIs, NoTerm}
 use Rattle.leaf.specs.Answers.{CheckShape, leafRefusals}
 use Rattle.lookup.specs.declared.WordAnswer.{WordAnswer}
 use Rattle.lookup.specs.declared.WordAnswer.the-variants.{Found, Nothing, Shape, Broken}

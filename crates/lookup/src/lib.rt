@@ -11,7 +11,7 @@ ghost use lib.ListN.{length};
 ghost use Rattle.leaf.specs.Leaf.{Term, LeafIs};
 ghost use Rattle.lookup.specs.Order.{OrderIs, SharedMost, StandsIs};
 ghost use Rattle.lookup.specs.Words.{WordFound, WordIs, wordNumbers, WordGiven};
-ghost use Rattle.lookup.specs.Entries.{EntryFound, LeavesAre, Decides, DecidingShape, DecidingIs, decidingNumbers, EntryGiven};
+ghost use Rattle.lookup.specs.Entries.{EntryFound, BothLeaves, Decides, DecidingShape, DecidingIs, decidingNumbers, EntryGiven};
 
 // Document 01's numbers of the answers.
 const ACCEPTED: u32 = 0;
@@ -130,7 +130,7 @@ pub fn find_list(leaf: &[u8], columns: u32, word: &[u8]) -> WordAnswer
     if word.len() == 0 {
         return WordAnswer::Shape;
     }
-    if leaf::MAX_WORD < word.len() {
+    if common::MAX_WORD < word.len() {
         return WordAnswer::Shape;
     }
     match leaf::check(leaf, columns) {
@@ -228,7 +228,7 @@ fn entry_in(leaf: &[u8], columns: u64, word: &[u8], docid: u64) -> EntryAt
 // The entry that decides in two leaves that were checked: the newer leaf's, a deletion too, or else the older's.
 fn decide(newer: &[u8], older: &[u8], columns: u64, word: &[u8], docid: u64) -> EntryAnswer
     requires { ⌜ (0 < length (now word)) × ((ts : List Term) × LeafIs columns (now newer) ts) × ((us : List Term) × LeafIs columns (now older) us) ⌝ }
-    ensures { λ r. ⌜ ((ts us : List Term) → LeavesAre columns (now (newer .entry)) (now (older .entry)) ts us → Decides ts us (now (word .entry)) docid r) ⌝ }
+    ensures { λ r. ⌜ ((ts us : List Term) → BothLeaves columns (now (newer .entry)) (now (older .entry)) ts us → Decides ts us (now (word .entry)) docid r) ⌝ }
 {
     if let EntryAt::At { start, end } = entry_in(newer, columns, word, docid) {
         return EntryAnswer::Newer {
@@ -252,19 +252,19 @@ fn entry_shape(newer: &[u8], older: &[u8], columns: u32, word: &[u8], docid: i64
     if columns == 0 {
         return false;
     }
-    if leaf::MAX_COLUMNS < columns {
+    if (common::MAX_COLUMNS as u32) < columns {
         return false;
     }
-    if leaf::MAX_LEAVES < newer.len() {
+    if common::MAX_INDEX_BYTES < newer.len() {
         return false;
     }
-    if leaf::MAX_LEAVES - newer.len() < older.len() {
+    if common::MAX_INDEX_BYTES - newer.len() < older.len() {
         return false;
     }
     if word.len() == 0 {
         return false;
     }
-    if leaf::MAX_WORD < word.len() {
+    if common::MAX_WORD < word.len() {
         return false;
     }
     docid >= 0

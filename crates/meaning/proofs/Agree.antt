@@ -1,20 +1,21 @@
 -- A query looks only at its own words, in the columns that their phrases allow: two rows in which these stand at the same
 -- places satisfy it or not together.
-use Prim.Native.Nat.{ℕ, suc, _+_}
+use Prim.Native.Nat.{ℕ, suc}
 use mathlib.Core.Path.{_≡_, refl, sym, subst}
 use mathlib.Core.Bool.{true}
-use mathlib.Core.Logic.{_↔_, _⊎_, inl, inr, ⊎-elim}
+use mathlib.Core.Logic.{_↔_, inl, inr, ⊎-elim}
 use mathlib.Core.List.{List, [], _∷_, List·Memᴰ, List·Memᴰ·head, List·Memᴰ·tail}
-use Rattle.lexer.specs.Token.{QueryWord, Phrase, allows}
-use Rattle.query.specs.Tree.{Op, OR, AND, NOT, Link, Chain, Tree, leaf, joined}
-use Rattle.meaning.specs.Satisfies.{Live, Matches, StandsAt, Standing, Occurrence, Consecutive, Occurs, Nearby, Chosen, ChainHolds, Holds, Satisfies}
+use Rattle.common.specs.Bits.{contains}
+use Rattle.lexer.specs.Token.{QueryWord, Phrase}
+use Rattle.query.specs.Tree.{OR, AND, NOT, Link, Chain, Tree, leaf, joined}
+use Rattle.meaning.specs.Satisfies.{Live, Matches, StandsAt, Standing, Occurrence, Consecutive, Occurs, Chosen, ChainHolds, Holds, Satisfies}
 
 -- ---- where a query looks
 
 -- what a phrase, a chain, a tree sees of two rows is the same
 abbrev pub SamePhrase : Standing → Standing → Phrase → Type 0
 SamePhrase one other p =
-    (w : QueryWord) → List·Memᴰ w (p .words) → (c position : ℕ) → allows (p .columns) c ≡ true → one w c position ↔ other w c position
+    (w : QueryWord) → List·Memᴰ w (p .words) → (c position : ℕ) → contains (p .columns) c ≡ true → one w c position ↔ other w c position
 
 abbrev pub SameLinks : Standing → Standing → List Link → Type 0
 SameLinks one other [] = Unit {0}
@@ -78,7 +79,7 @@ holds-same one other (joined NOT x y) a =
 -- two live-position functions agree where a tree looks: its words, and those that begin with a word that has a `*`
 abbrev pub AgreePhrase : Live → Live → ℕ → Phrase → Type 0
 AgreePhrase one other d p =
-    (w : QueryWord) → List·Memᴰ w (p .words) → (word : List ℕ) → Matches w word → (c : ℕ) → allows (p .columns) c ≡ true → one word d c ≡ other word d c
+    (w : QueryWord) → List·Memᴰ w (p .words) → (word : List ℕ) → Matches w word → (c : ℕ) → contains (p .columns) c ≡ true → one word d c ≡ other word d c
 
 abbrev pub AgreeLinks : Live → Live → ℕ → List Link → Type 0
 AgreeLinks one other d [] = Unit {0}

@@ -5,9 +5,9 @@ use mathlib.Core.Path.{_≡_, refl, ap, _∙_}
 use mathlib.Core.List.{List, [], _∷_, _++_}
 use Rattle.doclist.specs.Doclist.{Entry}
 use Rattle.leaf.specs.Leaf.{Term}
-use Rattle.meaning.specs.Index.{Decided, nothing, entry, leafEntry, orElse, deciding, decidedPositions, live}
+use Rattle.meaning.specs.Index.{MaybeEntry, nothing, entry, leafEntry, orElse, deciding, decidedPositions, live}
 
-or-else-again : (x y z : Decided) → orElse x (orElse y z) ≡ orElse (orElse x y) z
+or-else-again : (x y z : MaybeEntry) → orElse x (orElse y z) ≡ orElse (orElse x y) z
 or-else-again nothing y z = refl
 or-else-again (entry e) y z = refl
 

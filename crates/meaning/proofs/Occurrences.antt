@@ -1,5 +1,5 @@
 -- A phrase alone holds in a row exactly when the list of its occurrences there is not empty.
-use Prim.Native.Nat.{ℕ, _<_}
+use Prim.Native.Nat.{_<_}
 use native.Mathlib.Omega.{arith}
 use mathlib.Core.Path.{refl}
 use mathlib.Core.Logic.{_↔_}
@@ -7,7 +7,7 @@ use mathlib.Core.List.{List, [], _∷_, List·Memᴰ, List·Memᴰ·head, List·
 use lib.ListN.{length}
 use Rattle.lexer.specs.Token.{Phrase}
 use Rattle.query.specs.Tree.{Chain}
-use Rattle.meaning.specs.Satisfies.{Standing, Occurrence, Occurs, OccurrencesAre, ChainHolds}
+use Rattle.meaning.specs.Satisfies.{Standing, Occurrence, OccurrencesAre, ChainHolds}
 
 abbrev pub alone : Phrase → Chain
 alone p = record { first = p; links = [] }

@@ -10,28 +10,28 @@ use Rattle.doclist.specs.Doclist.{Column, Entry}
 use Rattle.leaf.specs.Leaf.{Term}
 use Rattle.meaning.specs.Satisfies.{Live}
 
--- what may be missing
-pub data Decided : Type 0 where
-  nothing : Decided
-  entry : Entry → Decided
+-- an entry, or nothing where there is none
+pub data MaybeEntry : Type 0 where
+  nothing : MaybeEntry
+  entry : Entry → MaybeEntry
 
 -- the entry for a docid in a posting list
-abbrev pub entryFor : ℕ → List Entry → Decided
+abbrev pub entryFor : ℕ → List Entry → MaybeEntry
 entryFor docid [] = nothing
 entryFor docid (e ∷ es) = pick (eqb (e .docid) docid) (entry e) (entryFor docid es)
 
 -- the entry for a word and a docid in a leaf
-abbrev pub leafEntry : List ℕ → ℕ → List Term → Decided
+abbrev pub leafEntry : List ℕ → ℕ → List Term → MaybeEntry
 leafEntry word docid [] = nothing
 leafEntry word docid (t ∷ ts) = pick (same (t .word) word) (entryFor docid (t .entries)) (leafEntry word docid ts)
 
 -- the first of two that is there
-abbrev pub orElse : Decided → Decided → Decided
+abbrev pub orElse : MaybeEntry → MaybeEntry → MaybeEntry
 orElse (entry e) other = entry e
 orElse nothing other = other
 
 -- the entry that decides: of the newest leaf that has one
-abbrev pub deciding : List (List Term) → List ℕ → ℕ → Decided
+abbrev pub deciding : List (List Term) → List ℕ → ℕ → MaybeEntry
 deciding [] word docid = nothing
 deciding (newest ∷ older) word docid = orElse (leafEntry word docid newest) (deciding older word docid)
 
@@ -40,7 +40,7 @@ abbrev pub positionsIn : ℕ → List Column → List ℕ
 positionsIn column [] = []
 positionsIn column (c ∷ cs) = pick (eqb (c .column) column) (c .positions) (positionsIn column cs)
 
-abbrev pub decidedPositions : Decided → ℕ → List ℕ
+abbrev pub decidedPositions : MaybeEntry → ℕ → List ℕ
 decidedPositions nothing column = []
 decidedPositions (entry e) column = positionsIn column (e .columns)
 

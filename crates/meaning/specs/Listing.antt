@@ -2,9 +2,8 @@
 -- and, with too little room, its need."
 use Prim.Native.Nat.{ℕ, _-_, _<_}
 use lib.IntN.{ℤ, pos}
-use mathlib.Core.Path.{_≡_}
 use mathlib.Core.Logic.{_↔_}
-use mathlib.Core.List.{List, [], _∷_, _++_, map, List·Memᴰ}
+use mathlib.Core.List.{List, _++_, map, List·Memᴰ}
 use lib.ListN.{length, replicate}
 use Rattle.doclist.specs.Doclist.{Rising, docidLimit}
 use Rattle.leaf.specs.Leaf.{Term}
@@ -22,12 +21,12 @@ abbrev pub Answers : List (List Term) → Tree → List ℕ → Type 0
 Answers leaves tree docids = Lists (λ d. Satisfies (live leaves) d tree) docids
 
 -- how a docid is shown in the result room
-abbrev pub shown : ℕ → ℤ
-shown d = pos d
+abbrev pub signedDocid : ℕ → ℤ
+signedDocid d = pos d
 
 -- a room of `n` numbers: the docids, then zeros
 abbrev pub roomWith : ℕ → List ℕ → List ℤ
-roomWith n docids = map shown docids ++ replicate (n - length docids) (pos 0)
+roomWith n docids = map signedDocid docids ++ replicate (n - length docids) (pos 0)
 
 abbrev pub zeros : ℕ → List ℤ
 zeros n = replicate n (pos 0)

@@ -1,14 +1,15 @@
 -- When a row satisfies a query (document 01, "When a row satisfies a query"). A row is a docid. Where words stand in it is
 -- given by a function, `Live`: for a word, a docid and a column, the positions. Nothing here knows of leaves: the index
 -- enters through that function alone.
-use Prim.Native.Nat.{ℕ, zero, suc, _+_, _-_, _≤_, _<_}
+use Prim.Native.Nat.{ℕ, suc, _+_, _-_, _≤_, _<_}
 use mathlib.Core.Path.{_≡_}
 use mathlib.Core.Logic.{_⊎_, _↔_}
-use mathlib.Core.Bool.{Bool, true, false}
+use mathlib.Core.Bool.{true, false}
 use mathlib.Core.List.{List, [], _∷_, _++_, List·Memᴰ}
 use lib.ListN.{length}
-use Rattle.lexer.specs.Token.{QueryWord, Phrase, Distance, bare, written, allows}
-use Rattle.query.specs.Tree.{Op, OR, AND, NOT, Link, Chain, Tree, leaf, joined}
+use Rattle.common.specs.Bits.{contains}
+use Rattle.lexer.specs.Token.{QueryWord, Phrase, Distance, bare, written}
+use Rattle.query.specs.Tree.{OR, AND, NOT, Link, Chain, Tree, leaf, joined}
 
 -- ---- words
 
@@ -47,7 +48,7 @@ Consecutive stands (w ∷ ws) column position = stands w column position × Cons
 
 -- "A phrase occurs where its words stand at consecutive positions in one column. A column prefix allows that column only."
 pub record Occurs (stands : Standing) (p : Phrase) (o : Occurrence) : Type 0 where
-  pub allowed : allows (p .columns) (o .column) ≡ true
+  pub allowed : contains (p .columns) (o .column) ≡ true
   pub consecutive : Consecutive stands (p .words) (o .column) (o .first)
   pub ends : o .last + 1 ≡ o .first + length (p .words)
 

@@ -11,9 +11,10 @@ use lib.ListN.{length, getD, drop, drop-of-length-le, List·getD-eq-default}
 use lib.Seq.{drop-cons}
 use borrow.Author.Tests.{le-leb, lt-leb}
 use Rattle.common.specs.Bytes.{part}
+use Rattle.common.proofs.Parts.{part-none, part-least}
+use Rattle.common.proofs.Cases.{equal-test}
 use Rattle.offsets.specs.Cut.{endsFrom, cuts, Cuts, cut, startOf}
-use Rattle.offsets.proofs.General.{part-none, part-least, told}
-use Rattle.offsets.proofs.Cuts.{cuts-law, past-cut, part-at, start-later}
+use Rattle.offsets.proofs.Cuts.{cuts-law, past-cut, cut-at, start-later}
 
 -- ---- is_cut
 
@@ -36,7 +37,7 @@ unfolding endsFrom
 none-left a n es i h = rw (drop-of-length-le es h) refl
 
 pub cut-told : (s es : List ℕ) (r : Bool) → r ≡ cuts s es → (r ≡ cuts s es) × ((r ≡ true) ↔ Cuts s es)
-cut-told s es r e = told r (cuts s es) e (cuts-law s es)
+cut-told s es r e = equal-test r (cuts s es) e (cuts-law s es)
 
 -- ---- part
 
@@ -45,11 +46,11 @@ no-part s es i h = sym (List·getD-eq-default (cut s es) [] (past-cut s es i h))
 
 module _ (s es : List ℕ) (i : ℕ) (h : i < length es) where
   pub first-part : i ≡ 0 → part s 0 (min (getD es i 0) (length s)) ≡ getD (cut s es) i []
-  first-part e = part-least s 0 (getD es i 0) ∙ ap (λ a. part s a (getD es i 0)) (sym (ap (startOf es) e)) ∙ sym (part-at s es i h)
+  first-part e = part-least s 0 (getD es i 0) ∙ ap (λ a. part s a (getD es i 0)) (sym (ap (startOf es) e)) ∙ sym (cut-at s es i h)
 
   module _ (l : 0 < i) where
     pub later-part : part s (getD es (i - 1) 0) (min (getD es i 0) (length s)) ≡ getD (cut s es) i []
-    later-part = part-least s (getD es (i - 1) 0) (getD es i 0) ∙ ap (λ a. part s a (getD es i 0)) (sym (start-later 0 es i l)) ∙ sym (part-at s es i h)
+    later-part = part-least s (getD es (i - 1) 0) (getD es i 0) ∙ ap (λ a. part s a (getD es i 0)) (sym (start-later 0 es i l)) ∙ sym (cut-at s es i h)
 
     pub empty-part : min (getD es i 0) (length s) < getD es (i - 1) 0 → [] ≡ getD (cut s es) i []
     empty-part k = sym (part-none s (getD es (i - 1) 0) (min (getD es i 0) (length s)) (omega arith)) ∙ later-part

@@ -14,8 +14,8 @@ use borrow.Author.Tests.{le-leb, leb-true, eqb-true, eq-eqb}
 use Rattle.common.specs.Pick.{both}
 use Rattle.common.specs.Bytes.{part}
 use Rattle.common.proofs.Cases.{both-left, both-right, both-true}
+use Rattle.common.proofs.Parts.{part-length, part-rest}
 use Rattle.offsets.specs.Cut.{endsFrom, cuts, Cuts, cutFrom, cut, startFrom, startOf}
-use Rattle.offsets.proofs.General.{length-part, part-stands}
 
 -- ---- where a part starts
 
@@ -35,8 +35,10 @@ record Rules (a n : ℕ) (es : List ℕ) : Type 0 where
   inside : (i : ℕ) → i < length es → getD es i 0 ≤ n
   ends : startFrom a es (length es) ≡ n
 
-tested : (a e n : ℕ) (es : List ℕ) → both (leb a e) (both (leb e n) (endsFrom e n es)) ≡ true → (a ≤ e) × (e ≤ n) × (endsFrom e n es ≡ true)
-tested a e n es t =
+-- one end of several
+pub ends-step : (a e n : ℕ) (es : List ℕ) → endsFrom a n (e ∷ es) ≡ true → (a ≤ e) × (e ≤ n) × (endsFrom e n es ≡ true)
+unfolding endsFrom
+ends-step a e n es t =
     let p = both-left (leb a e) (both (leb e n) (endsFrom e n es)) t in
     let q = both-right (leb a e) (both (leb e n) (endsFrom e n es)) t in
     (leb-true a e p, leb-true e n (both-left (leb e n) (endsFrom e n es) q), both-right (leb e n) (endsFrom e n es) q)
@@ -45,7 +47,7 @@ rules : (a n : ℕ) (es : List ℕ) → endsFrom a n es ≡ true → Rules a n e
 unfolding endsFrom
 rules a n [] t = record { rises = λ i h. absurd (not-suc-le-zero h); inside = λ i h. absurd (not-suc-le-zero h); ends = eqb-true a n t }
 rules a n (e ∷ es) t =
-    let b = tested a e n es t in
+    let b = ends-step a e n es t in
     let r = rules e n es (b .2) in
     record { rises = rise b r; inside = within b r; ends = sym (start-cons e es (length es)) ∙ r .ends }
   where
@@ -122,31 +124,31 @@ part-from a s (e ∷ es) zero h = refl
 part-from a s (e ∷ es) (suc i) h = part-from e s es i (le-of-suc-le-suc h) ∙ ap (λ b. part s b (getD es i 0)) (start-cons e es i)
 
 -- part number `i` goes from its start up to its end, whatever the ends are
-pub part-at : (s es : List ℕ) (i : ℕ) → i < length es → getD (cut s es) i [] ≡ part s (startOf es i) (getD es i 0)
-part-at s es i h = part-from 0 s es i h
+pub cut-at : (s es : List ℕ) (i : ℕ) → i < length es → getD (cut s es) i [] ≡ part s (startOf es i) (getD es i 0)
+cut-at s es i h = part-from 0 s es i h
 
 module _ (s es : List ℕ) (c : Cuts s es) (i : ℕ) (h : i < length es) where
   -- it starts at its end or before
-  pub part-start : startOf es i ≤ getD es i 0
-  part-start = rules 0 (length s) es (rules-cuts s es c) .rises i h
+  pub cut-start : startOf es i ≤ getD es i 0
+  cut-start = rules 0 (length s) es (rules-cuts s es c) .rises i h
 
   -- it ends inside the slice
-  pub part-end : getD es i 0 ≤ length s
-  part-end = c .none-passes i h
+  pub cut-end : getD es i 0 ≤ length s
+  cut-end = c .none-passes i h
 
   -- its length is what lies between
-  pub part-length : length (getD (cut s es) i []) ≡ getD es i 0 - startOf es i
-  part-length = ap length (part-at s es i h) ∙ length-part s (startOf es i) (getD es i 0) part-end
+  pub cut-length : length (getD (cut s es) i []) ≡ getD es i 0 - startOf es i
+  cut-length = ap length (cut-at s es i h) ∙ part-length s (startOf es i) (getD es i 0) cut-end
 
   -- the slice from its start on is the part, and then the slice from its end on
-  pub part-here : drop (startOf es i) s ≡ getD (cut s es) i [] ++ drop (getD es i 0) s
-  part-here = part-stands s (startOf es i) (getD es i 0) part-start ∙ ap (λ p. p ++ drop (getD es i 0) s) (sym (part-at s es i h))
+  pub cut-here : drop (startOf es i) s ≡ getD (cut s es) i [] ++ drop (getD es i 0) s
+  cut-here = part-rest s (startOf es i) (getD es i 0) cut-start ∙ ap (λ p. p ++ drop (getD es i 0) s) (sym (cut-at s es i h))
 
   -- its bytes are the slice's bytes, counted from its start
-  pub part-byte : (j : ℕ) → j < length (getD (cut s es) i []) → getD (getD (cut s es) i []) j 0 ≡ getD s (startOf es i + j) 0
-  part-byte j k =
-      let l : j < getD es i 0 - startOf es i = rw part-length at k in
-      ap (λ p. getD p j 0) (part-at s es i h) ∙ getD-take (getD es i 0 - startOf es i) (drop (startOf es i) s) j 0 l ∙ getD-drop (startOf es i) s j 0
+  pub cut-byte : (j : ℕ) → j < length (getD (cut s es) i []) → getD (getD (cut s es) i []) j 0 ≡ getD s (startOf es i + j) 0
+  cut-byte j k =
+      let l : j < getD es i 0 - startOf es i = rw cut-length at k in
+      ap (λ p. getD p j 0) (cut-at s es i h) ∙ getD-take (getD es i 0 - startOf es i) (drop (startOf es i) s) j 0 l ∙ getD-drop (startOf es i) s j 0
 
 -- ---- cutting loses nothing
 
@@ -154,8 +156,8 @@ joined-from : (a : ℕ) (s es : List ℕ) → endsFrom a (length s) es ≡ true 
 unfolding endsFrom cutFrom flatten
 joined-from a s [] t = sym (ap (λ n. drop n s) (eqb-true a (length s) t) ∙ drop-length s)
 joined-from a s (e ∷ es) t =
-    let b = tested a e (length s) es t in
-    ap (λ r. part s a e ++ r) (joined-from e s es (b .2)) ∙ sym (part-stands s a e (b .0))
+    let b = ends-step a e (length s) es t in
+    ap (λ r. part s a e ++ r) (joined-from e s es (b .2)) ∙ sym (part-rest s a e (b .0))
 
 -- joined again, the parts are the slice
 pub cut-joined : (s es : List ℕ) → Cuts s es → flatten (cut s es) ≡ s
@@ -165,12 +167,12 @@ sum-from : (a : ℕ) (s es : List ℕ) (i : ℕ) → endsFrom a (length s) es �
 unfolding endsFrom cutFrom flatten
 sum-from a s [] i t h = absurd (not-suc-le-zero h)
 sum-from a s (e ∷ es) zero t h =
-    let b = tested a e (length s) es t in
-    simp length-append (omega (arith, length-part s a e (b .1)))
+    let b = ends-step a e (length s) es t in
+    simp length-append (omega (arith, part-length s a e (b .1)))
 sum-from a s (e ∷ es) (suc i) t h =
-    let b = tested a e (length s) es t in
+    let b = ends-step a e (length s) es t in
     let k = sum-from e s es i (b .2) (le-of-suc-le-suc h) in
-    simp length-append (omega (arith, length-part s a e (b .1)))
+    simp length-append (omega (arith, part-length s a e (b .1)))
 
 -- each end is the sum of the lengths of the parts up to it
 pub end-is-sum : (s es : List ℕ) → Cuts s es → (i : ℕ) → i < length es → getD es i 0 ≡ length (flatten (take (i + 1) (cut s es)))

@@ -9,16 +9,18 @@ use mathlib.Core.List.{List, [], _∷_, map}
 use lib.Dec.{leb}
 use lib.ListN.{length, getD, drop, length-drop}
 use lib.Seq.{getD-drop}
-use borrow.Author.Tests.{leb-true, le-leb, not-true}
+use borrow.Author.Tests.{leb-true, not-true}
 use Rattle.common.specs.Pick.{pick, both}
 use Rattle.common.specs.Bytes.{within, same}
 use Rattle.common.proofs.Cases.{both-left, both-right, both-true, bool-case, false-not-true}
-use Rattle.common.proofs.Lists.{same-true, same-refl}
+use Rattle.common.proofs.Same.{same-true, same-refl}
+use Rattle.common.proofs.Members.{Every, every-each, each-every}
+use Rattle.common.proofs.Numbers.{within-true}
+use Rattle.common.specs.Bounds.{maxColumns}
 use Rattle.tokenizer.specs.Word.{fold}
 use Rattle.offsets.specs.Cut.{cuts, Cuts, cut}
-use Rattle.offsets.specs.Names.{maxColumns, maxName, isNameByte, nameBytes, isName, sameName, columnFrom, columnOf, ColumnIs, eachName, isNew, distinct, namesOk, Names}
+use Rattle.offsets.specs.Names.{maxName, isNameByte, nameBytes, isName, sameName, columnFrom, columnOf, ColumnIs, eachName, isNew, allDistinct, namesOk, Names}
 use Rattle.offsets.specs.declared.Column.the-variants.{At}
-use Rattle.offsets.proofs.General.{Every, every-each, each-every}
 use Rattle.offsets.proofs.Cuts.{cuts-rules, rules-cuts, length-cut}
 
 -- ---- two names
@@ -38,12 +40,12 @@ name-other m n g = bool-case (sameName m n) (λ e. absurd (g (same-name m n e)))
 -- ---- finding a column
 
 -- where a search from number `a` on found it
-record Found (a : ℕ) (names : List (List ℕ)) (name : List ℕ) (i : ℕ) : Type 0 where
+record FirstNamed (a : ℕ) (names : List (List ℕ)) (name : List ℕ) (i : ℕ) : Type 0 where
   at : ℕ
   place : i ≡ a + at
   column : ColumnIs names name at
 
-found-further : (a : ℕ) (n : List ℕ) (ns : List (List ℕ)) (name : List ℕ) (i : ℕ) → sameName n name ≡ false → Found (suc a) ns name i → Found a (n ∷ ns) name i
+found-further : (a : ℕ) (n : List ℕ) (ns : List (List ℕ)) (name : List ℕ) (i : ℕ) → sameName n name ≡ false → FirstNamed (suc a) ns name i → FirstNamed a (n ∷ ns) name i
 found-further a n ns name i e f =
     record {
       at = suc (f .at);
@@ -55,7 +57,7 @@ found-further a n ns name i e f =
     first zero h = other-name n name e
     first (suc j) h = f .column .first j (le-of-suc-le-suc h)
 
-column-sound : (a : ℕ) (ns : List (List ℕ)) (name : List ℕ) (i : ℕ) → columnFrom a ns name ≡ At i → Found a ns name i
+column-sound : (a : ℕ) (ns : List (List ℕ)) (name : List ℕ) (i : ℕ) → columnFrom a ns name ≡ At i → FirstNamed a ns name i
 unfolding columnFrom
 column-sound a [] name i e = let z : _≡_ {A = ℕ} 0 1 = cc in absurd (omega arith)
 column-sound a (n ∷ ns) name i e =
@@ -109,8 +111,8 @@ pub name-test : Every [] (λ n _. isName n) eachName
 unfolding eachName
 name-test = record { none = refl; more = λ x xs. refl }
 
-pub distinct-test : Every [] (λ n ns. isNew (columnOf ns n)) distinct
-unfolding distinct
+pub distinct-test : Every [] (λ n ns. isNew (columnOf ns n)) allDistinct
+unfolding allDistinct
 distinct-test = record { none = refl; more = λ x xs. refl }
 
 new-test : (name : List ℕ) → Every [] (λ n _. not (sameName n name)) (λ ns. isNew (columnOf ns name))
@@ -123,7 +125,7 @@ new-test name = record { none = refl; more = more }
 -- ---- all names
 
 -- the rules of a table's names
-names-rules : (names : List (List ℕ)) → within 1 maxColumns (length names) ≡ true → eachName names ≡ true → distinct names ≡ true → Names names
+names-rules : (names : List (List ℕ)) → within 1 maxColumns (length names) ≡ true → eachName names ≡ true → allDistinct names ≡ true → Names names
 names-rules names w e d =
     record {
       some = leb-true 1 (length names) (both-left (leb 1 (length names)) (leb (length names) maxColumns) w);
@@ -155,9 +157,6 @@ names-rules names w e d =
         let z : suc i + (j - suc i) ≡ j = omega arith in
         other-name (getD (drop (suc i) names) (j - suc i) []) n o (ap (map fold) (getD-drop (suc i) names (j - suc i) [] ∙ ap (λ m. getD names m []) z) ∙ sym f)
 
-within-true : (low high n : ℕ) → low ≤ n → n ≤ high → within low high n ≡ true
-within-true low high n h k = both-true (leb low n) (leb n high) (le-leb low n h) (le-leb n high k)
-
 rules-each : (names : List (List ℕ)) → Names names → eachName names ≡ true
 rules-each names r =
     each-every name-test names
@@ -166,7 +165,7 @@ rules-each names r =
     (within-true 1 maxName (length (getD names i [])) (r .not-empty i h) (r .short i h))
     (each-every byte-test (getD names i []) (λ j k. r .bytes i j h k)))
 
-rules-distinct : (names : List (List ℕ)) → Names names → distinct names ≡ true
+rules-distinct : (names : List (List ℕ)) → Names names → allDistinct names ≡ true
 rules-distinct names r = each-every distinct-test names (λ i h. each-every (new-test (getD names i [])) (drop (suc i) names) (new i))
   where
     new : (i k : ℕ) → k < length (drop (suc i) names) → not (sameName (getD (drop (suc i) names) k []) (getD names i [])) ≡ true
@@ -183,7 +182,7 @@ names-law s es = (to, from)
     to t =
         let w = within 1 maxColumns (length es) in
         let e = eachName (cut s es) in
-        let d = distinct (cut s es) in
+        let d = allDistinct (cut s es) in
         let u = both-right (cuts s es) (both w (both e d)) t in
         let v = both-right w (both e d) u in
         let l : within 1 maxColumns (length (cut s es)) ≡ true = ap (within 1 maxColumns) (length-cut s es) ∙ both-left w (both e d) u in
@@ -193,7 +192,7 @@ names-law s es = (to, from)
     from r =
         let w = within 1 maxColumns (length es) in
         let e = eachName (cut s es) in
-        let d = distinct (cut s es) in
+        let d = allDistinct (cut s es) in
         let n = r .1 in
         let l = length-cut s es in
         both-true (cuts s es) (both w (both e d)) (rules-cuts s es (r .0))

@@ -9,12 +9,13 @@ use lib.ListN.{length, getD, drop, drop-of-length-le, length-map}
 use lib.Seq.{drop-cons}
 use borrow.Author.Tests.{le-leb, lt-leb, lt-ltb, le-ltb, eq-eqb, ne-eqb}
 use Rattle.common.specs.Bytes.{same}
+use Rattle.common.proofs.Cases.{equal-test}
+use Rattle.common.specs.Bounds.{maxColumns}
 use Rattle.tokenizer.specs.Word.{isWord, fold}
 use Rattle.offsets.specs.Cut.{cuts, Cuts, cut}
-use Rattle.offsets.specs.Names.{maxColumns, maxName, isNameByte, nameBytes, isName, sameName, columnFrom, columnOf, ColumnIs, eachName, isNew, distinct, namesOk, Names}
+use Rattle.offsets.specs.Names.{maxName, isNameByte, nameBytes, isName, sameName, columnFrom, columnOf, ColumnIs, eachName, isNew, allDistinct, namesOk, Names}
 use Rattle.offsets.specs.declared.Column.{Column}
 use Rattle.offsets.specs.declared.Column.the-variants.{At, Unknown}
-use Rattle.offsets.proofs.General.{told}
 use Rattle.offsets.proofs.NameLaws.{name-other, column-law, new-anywhere, names-law}
 
 -- ---- one name
@@ -85,7 +86,7 @@ later-told names i n r e f =
     ap isNew (f ∙ k ∙ ap (columnFrom (suc i) (drop (suc i) names)) e) ∙ new-anywhere (suc i) 0 (drop (suc i) names) (getD names i [])
 
 pub names-told : (s es : List ℕ) (r : Bool) → r ≡ namesOk s es → (r ≡ namesOk s es) × ((r ≡ true) ↔ (Cuts s es × Names (cut s es)))
-names-told s es r e = told r (namesOk s es) e (names-law s es)
+names-told s es r e = equal-test r (namesOk s es) e (names-law s es)
 
 module _ (s es : List ℕ) where
   pub not-cut : cuts s es ≡ false → false ≡ namesOk s es
@@ -103,5 +104,5 @@ module _ (s es : List ℕ) where
         pub bad-name : eachName (cut s es) ≡ false → false ≡ namesOk s es
         bad-name f = rw (e, le-leb 1 (length es) h, le-leb (length es) maxColumns k, f) refl
 
-        pub good-names : (r : Bool) → eachName (cut s es) ≡ true → r ≡ distinct (cut s es) → r ≡ namesOk s es
+        pub good-names : (r : Bool) → eachName (cut s es) ≡ true → r ≡ allDistinct (cut s es) → r ≡ namesOk s es
         good-names r f d = rw (e, le-leb 1 (length es) h, le-leb (length es) maxColumns k, f) d

@@ -8,13 +8,11 @@ use lib.ListN.{length, getD}
 use lib.Dec.{eqb, ltb}
 use Rattle.common.specs.Pick.{pick, both, either}
 use Rattle.common.specs.Bytes.{within, same}
+use Rattle.common.specs.Bounds.{maxColumns}
 use Rattle.tokenizer.specs.Word.{isWord, fold}
 use Rattle.offsets.specs.Cut.{cuts, cut}
 use Rattle.offsets.specs.declared.Column.{Column}
 use Rattle.offsets.specs.declared.Column.the-variants.{At, Unknown}
-
-abbrev pub maxColumns : ℕ
-maxColumns = 16
 
 abbrev pub maxName : ℕ
 maxName = 32
@@ -64,13 +62,13 @@ isNew Unknown = true
 isNew (At i) = false
 
 -- whether no name is found again among the later ones: no two are equal when ASCII case is ignored
-unfoldable pub distinct : List (List ℕ) → Bool
-distinct [] = true
-distinct (n ∷ ns) = both (isNew (columnOf ns n)) (distinct ns)
+unfoldable pub allDistinct : List (List ℕ) → Bool
+allDistinct [] = true
+allDistinct (n ∷ ns) = both (isNew (columnOf ns n)) (allDistinct ns)
 
 -- whether a slice and its ends are a table's column names
 abbrev pub namesOk : List ℕ → List ℕ → Bool
-namesOk s es = both (cuts s es) (both (within 1 maxColumns (length es)) (both (eachName (cut s es)) (distinct (cut s es))))
+namesOk s es = both (cuts s es) (both (within 1 maxColumns (length es)) (both (eachName (cut s es)) (allDistinct (cut s es))))
 
 -- the same, rule by rule
 pub record Names (names : List (List ℕ)) : Type 0 where

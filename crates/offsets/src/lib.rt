@@ -11,10 +11,7 @@ ghost use Prim.Native.Nat.{ℕ, _<_, min, suc};
 ghost use lib.ListN.{getD, length, drop};
 ghost use Rattle.offsets.specs.Cut.{cuts, Cuts, cut};
 ghost use Rattle.offsets.specs.Names.{isNameByte, nameBytes, isName, sameName, columnFrom, columnOf, ColumnIs};
-ghost use Rattle.offsets.specs.Names.{eachName, isNew, distinct, namesOk, Names};
-
-// A table has 1 to 16 columns.
-pub const MAX_COLUMNS: usize = 16;
+ghost use Rattle.offsets.specs.Names.{eachName, isNew, allDistinct, namesOk, Names};
 
 // A column's name has 1 to 32 bytes.
 pub const MAX_NAME: usize = 32;
@@ -82,7 +79,7 @@ pub fn part<'a>(s: &'a [u8], ends: &[u32], i: usize) -> &'a [u8]
 }
 
 // Whether a byte may stand in a name: an ASCII letter, a digit or `_`.
-fn is_name_byte(b: u8) -> bool
+pub fn is_name_byte(b: u8) -> bool
     ensures { λ r. ⌜ r ≡ isNameByte b ⌝ }
 {
     if b == UNDERSCORE {
@@ -188,7 +185,7 @@ fn differs_from_later(s: &[u8], ends: &[u32], i: usize) -> bool
 
 // Whether no two names are equal when ASCII case is ignored.
 fn are_distinct(s: &[u8], ends: &[u32]) -> bool
-    ensures { λ r. ⌜ r ≡ distinct (cut (now (s .entry)) (now (ends .entry))) ⌝ }
+    ensures { λ r. ⌜ r ≡ allDistinct (cut (now (s .entry)) (now (ends .entry))) ⌝ }
 {
     let mut i: usize = 0;
     while i < ends.len() {
@@ -212,7 +209,7 @@ pub fn are_names(s: &[u8], ends: &[u32]) -> bool
     if ends.len() < 1 {
         return false;
     }
-    if MAX_COLUMNS < ends.len() {
+    if common::MAX_COLUMNS < ends.len() {
         return false;
     }
     if !has_names(s, ends) {

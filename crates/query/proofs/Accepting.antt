@@ -6,19 +6,18 @@ use mathlib.Core.Bool.{true, false}
 use mathlib.Core.List.{List}
 use lib.ListN.{length}
 use lib.Dec.{leb}
-use Rattle.common.proofs.Cases.{bool-case}
+use Rattle.common.proofs.Cases.{bool-case, true-not-false}
 use Rattle.lexer.specs.declared.Lexed.{Lexed}
 use Rattle.lexer.specs.Token.{Token, maxQuery}
 use Rattle.lexer.specs.Tokens.{Tokens}
 use Rattle.lexer.specs.Lexing.{QueryTokens, Lexing, tokens, lexOf, isWithin, lexedOf, Lexes}
 use Rattle.lexer.specs.Lexing as lexing
 use Rattle.lexer.proofs.TokenLaws.{tokens-law, tokens-unique}
-use Rattle.lexer.proofs.General.{true-not-false}
 use Rattle.query.specs.declared.Reading.{Reading}
 use Rattle.query.specs.Tree.{OR, Tree}
 use Rattle.query.specs.Grammar.{level, maxDepth, Derives, Reads}
 use Rattle.query.specs.Parsing.{Parsed, found, refused, treeOf}
-use Rattle.query.specs.Reading.{refusal, reading, readingOf, tokensRead, readOf, Compiles, TokensOf}
+use Rattle.query.specs.Reading.{refusedReading, reading, readingOf, tokensRead, readOf, Compiles, TokensOf}
 use Rattle.query.proofs.Sound.{tree-sound}
 use Rattle.query.proofs.Complete.{tree-complete, tree-unique}
 
@@ -66,7 +65,7 @@ module _ (names : List (List ℕ)) (s : List ℕ) where
     tokens-compile = compiles-as (treeOf ts) refl
 
   -- to all others
-  pub others-refused : ((ts : List Token) → QueryTokens names s ts → ⊥) → Compiles names s refusal
+  pub others-refused : ((ts : List Token) → QueryTokens names s ts → ⊥) → Compiles names s refusedReading
   others-refused no-tokens =
       record {
         accepted = (λ h. true-not-false false h refl, λ p. absurd (no-tokens (p .1 .tokens) (p .1 .split)));
@@ -87,11 +86,11 @@ module _ (names : List (List ℕ)) (s : List ℕ) where
       (λ b. rw b (ap tokensRead e ∙ within-computed ts (ap (λ (x : Lexing). lexing.answer x .ok) (sym e) ∙ rw b at k)))
       (λ b. true-not-false false (rw b at k) refl)
 
-  others-computed : (x : Lexing) → lexing.answer x .ok ≡ false → tokensRead x ≡ refusal
+  others-computed : (x : Lexing) → lexing.answer x .ok ≡ false → tokensRead x ≡ refusedReading
   others-computed (tokens ts) k = bool-case (isWithin ts) (λ h. true-not-false true refl (rw h at k)) (λ h. rw h)
   others-computed lexing.refused k = refl
 
-  pub refused-computed : lexedOf names s .ok ≡ false → readOf names s ≡ refusal
+  pub refused-computed : lexedOf names s .ok ≡ false → readOf names s ≡ refusedReading
   refused-computed k =
       bool-case (leb (length s) maxQuery)
       (λ b. rw b (others-computed (lexOf names s) (rw b at k)))
@@ -100,7 +99,7 @@ module _ (names : List (List ℕ)) (s : List ℕ) where
   -- ---- from the lexer's answer
 
   module _ (l : Lexed) (reader : l ≡ lexedOf names s) (meaning : Lexes names s l) where
-    pub lexer-refuses : l .ok ≡ false → (refusal ≡ readOf names s) × Compiles names s refusal
+    pub lexer-refuses : l .ok ≡ false → (refusedReading ≡ readOf names s) × Compiles names s refusedReading
     lexer-refuses k = (
       sym (refused-computed (ap (λ (x : Lexed). x .ok) (sym reader) ∙ k)),
       others-refused (λ ts q. true-not-false (l .ok) (meaning .accepted .1 (ts, q)) k),

@@ -1,13 +1,13 @@
 -- What holds of every query, whatever is asked of it: how many words and codes it has, and that no phrase is empty.
-use Prim.Native.Nat.{ℕ, suc, _≤_}
+use Prim.Native.Nat.{ℕ, _≤_}
 use native.Mathlib.Omega.{arith}
-use mathlib.Core.Path.{_≡_, refl, ap}
 use mathlib.Core.List.{List, [], _∷_}
 use lib.ListN.{length, length-append}
-use Rattle.lexer.specs.Token.{Token, rparen, begins, Node, tokenNodes, nodeMap, maxWords}
+use Rattle.lexer.specs.Token.{Token, rparen, begins, tokenNodes, maxWords}
 use Rattle.lexer.specs.Token as token
 use Rattle.lexer.specs.Tokens.{RunToken, and-run, or-run, not-run, near-run, written-run, word-run, column-run, Tokens, end, space, open-paren, close-paren, quote, run}
 use Rattle.lexer.specs.Lexing.{QueryTokens}
+use Rattle.lexer.proofs.Nodes.{length-nodeMap}
 use Rattle.query.specs.Tree.{Link, Tree, leaf, joined, treeNodes, postfix, maxCodes}
 use Rattle.query.specs.Grammar.{Level, Derives, linkTokens, chain, parens, single, or, and, beside, not, Reads}
 use Rattle.query.proofs.Nodes.{Worded, worded-left, worded-right, tree-nodes, codes-fit}
@@ -41,16 +41,12 @@ tokens-few (close-paren h) = omega (arith, tokens-few h)
 tokens-few (quote {inner = inner} {s = s} e w n h) = omega (arith, tokens-few h, length-append inner (34 ∷ s))
 tokens-few (run {r = r} {s = s} l e t h) = omega (arith, tokens-few h, length-append r s, l .some)
 
-node-count : (f : Node → ℕ) (ns : List Node) → length (nodeMap f ns) ≡ length ns
-node-count f [] = refl
-node-count f (n ∷ ns) = ap suc (node-count f ns)
-
 -- ---- the words and codes of a tree
 
 pub query-words : {names : List (List ℕ)} {s : List ℕ} {ts : List Token} {d : ℕ} {k : Level} {t : Tree}
     → QueryTokens names s ts → Derives d k ts t → length (treeNodes t) ≤ maxWords
 query-words {ts = ts} q i =
-    let c = node-count (λ n. length (n .word .bytes)) (tokenNodes begins ts) in
+    let c = length-nodeMap (λ n. length (n .word .bytes)) (tokenNodes begins ts) in
     rw (← tree-nodes i) (omega (arith, q .words .few))
 
 pub query-codes : {names : List (List ℕ)} {s : List ℕ} {ts : List Token} {d : ℕ} {k : Level} {t : Tree}

@@ -10,7 +10,7 @@ use Rattle.lexer.specs.Token.{Token, lparen, rparen, NEAR, operand}
 use Rattle.lexer.specs.Token as token
 use Rattle.query.specs.Tree.{Op, OR, AND, NOT, Link, Chain, Tree, leaf, joined}
 use Rattle.query.specs.Grammar.{maxDepth, Level, near, level, tighter, linkTokens, chainTokens, Derives, chain, parens, single, or, and, beside, not}
-use Rattle.query.specs.Parsing.{found, andThen, nearKind, frontKind, opens, goesOn, rightSide, extended, linksOf, parse, goOn, rank, fuel, treeOf}
+use Rattle.query.specs.Parsing.{found, parsedThen, nearKind, frontKind, opens, goesOn, rightSide, extended, linksOf, parse, goOn, rank, fuel, treeOf}
 use Rattle.query.proofs.Front.{no-link}
 use Rattle.query.proofs.Sound.{found-tree}
 
@@ -71,7 +71,7 @@ ranks OR = (refl, omega arith, omega arith)
 ranks AND = (refl, omega arith, omega arith)
 ranks NOT = (refl, omega arith, omega arith)
 
--- ---- what the parser makes of derived tokens: an operand it finds whole, behind a left side it goes on
+-- ---- what the parser makes of derived tokens: an operand it finds whole, after a left side it goes on
 
 abbrev Goes : ℕ → Op → List Token → ℕ → Tree → List Token → Type 0
 Goes d o ts f t us = (g : ℕ) × (fuel (level o) us ≤ g) × (parse f d (level o) ts ≡ goOn g d o t us)
@@ -127,9 +127,9 @@ out-single d o l t some out us zero le st = absurd (omega (arith, ranks o))
 out-single d o l t some out us (suc f) le st =
     let r = ranks o in
     let n = length-append l us in
-    (f, omega arith, ap (λ x. andThen x (λ t us. goOn f d o t us)) (finish d (tighter o) l t out us f (omega arith) st))
+    (f, omega arith, ap (λ x. parsedThen x (λ t us. goOn f d o t us)) (finish d (tighter o) l t out us f (omega arith) st))
 
--- a left side `l`, and behind it `vs`, where the operator goes on and has the right side `r`
+-- a left side `l`, and after it `vs`, where the operator goes on and has the right side `r`
 module _ (d : ℕ) (o : Op) (l : List Token) (a : Tree) (r : List Token) (b : Tree) (left : Out d (level o) l a) (right : Out d (tighter o) r b) (some : 1 ≤ length r) where
   out-joined : (vs us : List Token) → goesOn o vs ≡ true → rightSide o vs ≡ r ++ us → length (r ++ us) ≤ length vs → Stops (tighter o) vs
       → (f : ℕ) → fuel (level o) (l ++ vs) ≤ f → Stops (tighter o) us → Goes d o (l ++ vs) f (joined o a b) us

@@ -5,15 +5,16 @@ use mathlib.Core.Path.{_≡_, refl}
 use mathlib.Core.Bool.{true, false}
 use mathlib.Core.List.{List, [], _∷_, _++_, append-nil, map}
 use lib.ListN.{getD}
-use Rattle.common.specs.Marked.{Holds}
+use Rattle.common.specs.Marked.{AllHold}
 use Rattle.common.specs.Bytes.{same}
-use Rattle.tokenizer.specs.Word.{isWord, fold, maxWord}
+use Rattle.common.specs.Bounds.{maxWord}
+use Rattle.tokenizer.specs.Word.{isWord, fold}
 use Rattle.lexer.specs.Token.{Token, anyColumn}
 use Rattle.lexer.specs.Token as token
 use Rattle.lexer.specs.Tokens.{isSpace, isRunByte, each, stops, isOperator, bytesOR, Stretch, oneWord, RunToken, or-run, word-run, Tokens, end, space, run}
 use Rattle.query.specs.Tree.{AND, Chain, leaf}
 use Rattle.query.specs.Grammar.{level, maxDepth, Derives, chain, single, or, beside}
-use Rattle.query.specs.Marked.{columnNames, sqlite, fantastic, impressive, text, marked}
+use Rattle.query.specs.Marked.{exampleNames, sqlite, fantastic, impressive, text, marked}
 
 abbrev word : List ℕ → Token
 word w = oneWord w false anyColumn
@@ -21,14 +22,14 @@ word w = oneWord w false anyColumn
 abbrev tokens : List Token
 tokens = word sqlite ∷ word fantastic ∷ token.OR ∷ word impressive ∷ []
 
--- a word, and what stands behind it
+-- a word, and what stands after it
 word-token : (w s : List ℕ) (ts : List Token) → Stretch isRunByte w → Stretch isWord w → isOperator (w ++ []) ≡ false → stops isRunByte s ≡ true
-    → Tokens columnNames s ts → Tokens columnNames (w ++ s) (word w ∷ ts)
+    → Tokens exampleNames s ts → Tokens exampleNames (w ++ s) (word w ∷ ts)
 word-token w s ts r h n b t =
-    let x : RunToken columnNames (w ++ []) (word w) = word-run {w = w} false h n in
+    let x : RunToken exampleNames (w ++ []) (word w) = word-run {w = w} false h n in
     run r b (rw (append-nil w) at x) t
 
-split : Tokens columnNames text tokens
+split : Tokens exampleNames text tokens
 unfolding isSpace isRunByte each stops isOperator isWord same
 split =
     word-token sqlite (32 ∷ fantastic ++ 32 ∷ 79 ∷ 82 ∷ 32 ∷ impressive) _ (record { some = omega arith; passes = refl }) (record { some = omega arith; passes = refl }) refl refl
@@ -53,7 +54,7 @@ phrase w = record { first = record { words = record { bytes = map fold w; star =
 single-word : (w : List ℕ) → Derives maxDepth (level AND) (word w ∷ []) (leaf (phrase w))
 single-word w = single (single (chain (phrase w)))
 
-pub examples : Holds marked
+pub examples : AllHold marked
 unfolding fold
 examples = (
   record {

@@ -5,7 +5,8 @@ use mathlib.Core.Path.{_≡_, refl, ap}
 use mathlib.Core.List.{List, [], _∷_}
 use Rattle.lexer.specs.Token.{Token, lparen, rparen, NEAR, operand, Phrase, Distance}
 use Rattle.lexer.specs.Token as token
-use Rattle.query.specs.Parsing.{found, refused, nearKind, operandKind, frontKind, behind, linksOf, chainOf}
+use Rattle.lexer.specs.Filling.{operandKind}
+use Rattle.query.specs.Parsing.{found, refused, nearKind, frontKind, afterFront, linksOf, chainOf}
 use Rattle.query.specs.Tree.{Chain, leaf}
 
 -- the token of a kind that carries nothing
@@ -16,7 +17,7 @@ plain (suc (suc zero)) = token.AND
 plain (suc (suc (suc zero))) = token.OR
 plain (suc (suc (suc (suc k)))) = token.NOT
 
-pub front-plain : (k : ℕ) (ts : List Token) → k < 5 → frontKind ts ≡ k → ts ≡ plain k ∷ behind ts
+pub front-plain : (k : ℕ) (ts : List Token) → k < 5 → frontKind ts ≡ k → ts ≡ plain k ∷ afterFront ts
 front-plain k [] h e = absurd (omega arith)
 front-plain k (lparen ∷ ts) h e = ap (λ n. plain n ∷ ts) e
 front-plain k (rparen ∷ ts) h e = ap (λ n. plain n ∷ ts) e
@@ -26,7 +27,7 @@ front-plain k (token.NOT ∷ ts) h e = ap (λ n. plain n ∷ ts) e
 front-plain k (NEAR n ∷ ts) h e = absurd (omega arith)
 front-plain k (operand p ∷ ts) h e = absurd (omega arith)
 
-pub front-operand : (ts : List Token) → frontKind ts ≡ operandKind → (p : Phrase) × (ts ≡ operand p ∷ behind ts)
+pub front-operand : (ts : List Token) → frontKind ts ≡ operandKind → (p : Phrase) × (ts ≡ operand p ∷ afterFront ts)
 front-operand [] e = absurd (omega arith)
 front-operand (lparen ∷ ts) e = absurd (omega arith)
 front-operand (rparen ∷ ts) e = absurd (omega arith)
@@ -36,7 +37,7 @@ front-operand (token.NOT ∷ ts) e = absurd (omega arith)
 front-operand (NEAR n ∷ ts) e = absurd (omega arith)
 front-operand (operand p ∷ ts) e = (p, refl)
 
-pub front-near : (ts : List Token) → frontKind ts ≡ nearKind → (n : Distance) × (ts ≡ NEAR n ∷ behind ts)
+pub front-near : (ts : List Token) → frontKind ts ≡ nearKind → (n : Distance) × (ts ≡ NEAR n ∷ afterFront ts)
 front-near [] e = absurd (omega arith)
 front-near (lparen ∷ ts) e = absurd (omega arith)
 front-near (rparen ∷ ts) e = absurd (omega arith)

@@ -1,12 +1,13 @@
 -- The words of the tokens are the words of their tree, in the same order and with the same ties; and a tree has room in
 -- the compiled query where its words have.
-use Prim.Native.Nat.{ℕ, suc, _+_, _*_, _≤_}
+use Prim.Native.Nat.{ℕ, _+_, _*_, _≤_}
 use native.Mathlib.Omega.{arith}
 use mathlib.Core.Path.{_≡_, refl, sym, ap, _∙_}
 use mathlib.Core.List.{List, [], _∷_, _++_, append-assoc, append-nil}
 use lib.ListN.{length, length-append}
-use Rattle.lexer.specs.Token.{Token, lparen, rparen, NEAR, operand, QueryWord, Tie, begins, continues, nears, phraseNodes, tokenNodes, maxWords}
+use Rattle.lexer.specs.Token.{Token, lparen, rparen, NEAR, operand, begins, nears, phraseNodes, tokenNodes, maxWords}
 use Rattle.lexer.specs.Token as token
+use Rattle.lexer.proofs.Nodes.{length-phraseNodes}
 use Rattle.query.specs.Tree.{Op, OR, AND, NOT, Link, Tree, joined, linkNodes, treeNodes, postfix, maxCodes}
 use Rattle.query.specs.Grammar.{Level, linkTokens, Derives, chain, parens, single, or, and, beside, not}
 
@@ -81,17 +82,13 @@ worded-right (token.OR ∷ l) r h = worded-right l r h
 worded-right (token.NOT ∷ l) r h = worded-right l r h
 worded-right (NEAR n ∷ l) r h = worded-right l r h
 
-phrase-count : (t : Tie) (c : ℕ) (ws : List QueryWord) → length (phraseNodes t c ws) ≡ length ws
-phrase-count t c [] = refl
-phrase-count t c (w ∷ ws) = ap suc (phrase-count continues c ws)
-
 join-count : (o : Op) (a b : Tree) → length (postfix a) + 1 ≤ length (treeNodes a) * 2 → length (postfix b) + 1 ≤ length (treeNodes b) * 2
     → length (postfix (joined o a b)) + 1 ≤ length (treeNodes (joined o a b)) * 2
 join-count o a b p q = simp length-append (omega arith)
 
 code-count : {d : ℕ} {k : Level} {ts : List Token} {t : Tree} → Derives d k ts t → Worded ts → length (postfix t) + 1 ≤ length (treeNodes t) * 2
 code-count (chain c) h =
-    let n = phrase-count begins (c .first .columns) (c .first .words) in
+    let n = length-phraseNodes begins (c .first .columns) (c .first .words) in
     let m = h .0 in
     simp length-append (omega arith)
 code-count (parens {ts = ts} i) h = code-count i (worded-left ts (rparen ∷ []) h)

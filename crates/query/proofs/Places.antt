@@ -11,14 +11,15 @@ use lib.Seq.{getD-drop, drop-drop}
 use lib.Dec.{eqb}
 use borrow.Author.Tests.{eqb-true, eq-eqb, ne-eqb}
 use Rattle.common.specs.Pick.{pick, both, either}
+use Rattle.common.proofs.Lists.{getD-place}
 use Rattle.lexer.specs.Token.{Token, lparen, kindOf}
 use Rattle.lexer.specs.Lexing.{kindsOf}
+use Rattle.lexer.specs.Filling.{operandKind}
 use Rattle.query.specs.declared.Right.{Right}
 use Rattle.query.specs.declared.Right.the-variants.{At, Nothing}
 use Rattle.query.specs.Tree.{Op, OR, AND, NOT}
-use Rattle.query.specs.Parsing.{operandKind, endKind, frontKind, behind, opKind, opens, unwritten, goesOn, rightSide}
-use Rattle.query.specs.Kinds.{rightAt, Shows}
-use Rattle.query.proofs.General.{getD-place}
+use Rattle.query.specs.Parsing.{endKind, frontKind, afterFront, opKind, opens, unwritten, goesOn, rightSide}
+use Rattle.query.specs.Kinds.{rightAt, TokensAt}
 
 -- ---- the tokens from a place on
 
@@ -26,17 +27,17 @@ first-kind : (ts : List Token) → getD (kindsOf ts) 0 endKind ≡ frontKind ts
 first-kind [] = refl
 first-kind (t ∷ ts) = refl
 
-drop-kinds : (ts : List Token) → drop 1 (kindsOf ts) ≡ kindsOf (behind ts)
+drop-kinds : (ts : List Token) → drop 1 (kindsOf ts) ≡ kindsOf (afterFront ts)
 drop-kinds [] = refl
 drop-kinds (t ∷ ts) = refl
 
-module _ (kinds : List ℕ) (at : ℕ) (ts : List Token) (h : Shows kinds at ts) where
+module _ (kinds : List ℕ) (at : ℕ) (ts : List Token) (h : TokensAt kinds at ts) where
   pub shows-front : getD kinds at endKind ≡ frontKind ts
   shows-front =
       ap (λ n. getD kinds n endKind) (sym (add-zero at)) ∙ sym (getD-drop at kinds 0 endKind)
       ∙ ap (λ ks. getD ks 0 endKind) h ∙ first-kind ts
 
-  pub shows-behind : Shows kinds (at + 1) (behind ts)
+  pub shows-behind : TokensAt kinds (at + 1) (afterFront ts)
   shows-behind = sym (drop-drop 1 at kinds) ∙ ap (drop 1) h ∙ drop-kinds ts
 
   pub shows-length : length ts ≡ length kinds - at
@@ -85,14 +86,14 @@ module _ (kinds : List ℕ) (at : ℕ) (o : Op) where
       (chosen (eqb kind (opKind o)) (unwritten o kind) at n (right-by (At n) e))
 
   -- and the operator goes on there
-  pub right-goes-on : (ts : List Token) (n : ℕ) → Shows kinds at ts → rightAt (opKind o) kind at ≡ At n → (goesOn o ts ≡ true) × Shows kinds n (rightSide o ts)
+  pub right-goes-on : (ts : List Token) (n : ℕ) → TokensAt kinds at ts → rightAt (opKind o) kind at ≡ At n → (goesOn o ts ≡ true) × TokensAt kinds n (rightSide o ts)
   right-goes-on ts n h e =
       ⊎-elim
       (λ w. rw (← shows-front kinds at ts h, w .0, w .1) (refl, shows-behind kinds at ts h))
       (λ w. rw (← shows-front kinds at ts h, w .0, w .1, w .2) (refl, h))
       (chosen (eqb kind (opKind o)) (unwritten o kind) at n (right-by (At n) e))
 
-  pub right-stops : (ts : List Token) → Shows kinds at ts → rightAt (opKind o) kind at ≡ Nothing → goesOn o ts ≡ false
+  pub right-stops : (ts : List Token) → TokensAt kinds at ts → rightAt (opKind o) kind at ≡ Nothing → goesOn o ts ≡ false
   right-stops ts h e = rw (← shows-front kinds at ts h) (none-chosen (eqb kind (opKind o)) (unwritten o kind) at (right-by Nothing e))
 
 -- ---- how the code finds it

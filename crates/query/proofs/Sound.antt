@@ -2,17 +2,16 @@
 use Prim.Native.Nat.{ℕ, zero, suc}
 use native.Mathlib.Omega.{arith}
 use mathlib.Core.Path.{_≡_, refl, sym, ap, _∙_}
-use mathlib.Core.Bool.{Bool, true, false}
+use mathlib.Core.Bool.{true}
 use mathlib.Core.List.{List, [], _∷_, _++_, append-assoc, append-nil}
 use lib.Dec.{eqb}
 use borrow.Author.Tests.{eqb-true}
-use Rattle.common.specs.Pick.{either}
-use Rattle.common.proofs.Cases.{bool-case, pick-case, pick-lazy-case}
+use Rattle.common.proofs.Cases.{either-none, bool-case, pick-case, pick-lazy-case}
 use Rattle.lexer.specs.Token.{Token, lparen, rparen, NEAR, operand, kindOf}
 use Rattle.lexer.specs.Token as token
 use Rattle.query.specs.Tree.{Op, OR, AND, NOT, Link, Chain, Tree, leaf, joined}
 use Rattle.query.specs.Grammar.{maxDepth, Level, near, level, tighter, linkTokens, chainTokens, Derives, chain, parens, single, or, and, beside, not}
-use Rattle.query.specs.Parsing.{Parsed, found, refused, andThen, frontKind, behind, opKind, goesOn, rightSide, extended, linksOf, chainOf, closed, parse, goOn, whole, fuel, treeOf}
+use Rattle.query.specs.Parsing.{Parsed, found, refused, parsedThen, frontKind, afterFront, opKind, goesOn, rightSide, extended, linksOf, chainOf, closed, parse, goOn, whole, fuel, treeOf}
 use Rattle.query.proofs.Front.{front-plain}
 
 -- ---- results
@@ -27,7 +26,7 @@ pub found-rest : {t u : Tree} {ts us : List Token} → found t ts ≡ found u us
 found-rest e = cc
 
 pub then-found : {x : Parsed} {k : Tree → List Token → Parsed} {t : Tree} {us : List Token}
-    → andThen x k ≡ found t us → (a : Tree) × (vs : List Token) × (x ≡ found a vs) × (k a vs ≡ found t us)
+    → parsedThen x k ≡ found t us → (a : Tree) × (vs : List Token) × (x ≡ found a vs) × (k a vs ≡ found t us)
 then-found {x = found a vs} e = (a, vs, refl, e)
 then-found {x = refused} e = never-found e
 
@@ -94,19 +93,19 @@ chain-sound d (NEAR n ∷ ts) t us e = never-found e
 
 closed-sound : (t : Tree) (ts : List Token) (u : Tree) (us : List Token) → closed t ts ≡ found u us → (t ≡ u) × (ts ≡ rparen ∷ us)
 closed-sound t ts u us =
-    pick-case (λ x. x ≡ found u us → (t ≡ u) × (ts ≡ rparen ∷ us)) (eqb (frontKind ts) (kindOf rparen)) (found t (behind ts)) refused
+    pick-case (λ x. x ≡ found u us → (t ≡ u) × (ts ≡ rparen ∷ us)) (eqb (frontKind ts) (kindOf rparen)) (found t (afterFront ts)) refused
     (λ h e. (found-tree e, front-plain (kindOf rparen) ts (omega arith) (eqb-true (frontKind ts) (kindOf rparen) h) ∙ ap (λ vs. rparen ∷ vs) (found-rest e)))
     (λ h e. never-found e)
 
 parens-sound : (d : ℕ) (x : Parsed) (ts : List Token) (t : Tree) (us : List Token) → frontKind ts ≡ kindOf lparen
-    → ((a : Tree) (vs : List Token) → x ≡ found a vs → Front d (level OR) (behind ts) a vs)
-    → andThen x closed ≡ found t us → Front (suc d) near ts t us
+    → ((a : Tree) (vs : List Token) → x ≡ found a vs → Front d (level OR) (afterFront ts) a vs)
+    → parsedThen x closed ≡ found t us → Front (suc d) near ts t us
 parens-sound d x ts t us k inner e =
     let w = then-found {x = x} {k = closed} e in
     let c = closed-sound (w .0) (w .1) t us (w .3) in
     go (w .0) (w .1) (c .0) (c .1) (inner (w .0) (w .1) (w .2))
   where
-    go : (a : Tree) (vs : List Token) → a ≡ t → vs ≡ rparen ∷ us → Front d (level OR) (behind ts) a vs → Front (suc d) near ts t us
+    go : (a : Tree) (vs : List Token) → a ≡ t → vs ≡ rparen ∷ us → Front d (level OR) (afterFront ts) a vs → Front (suc d) near ts t us
     go a vs p q (l, r, i) = (
       lparen ∷ l ++ rparen ∷ [],
       front-plain (kindOf lparen) ts (omega arith) k ∙ ap (λ ws. lparen ∷ ws) (r ∙ ap (λ ws. l ++ ws) q ∙ sym (append-assoc l (rparen ∷ []) us)),
@@ -115,28 +114,24 @@ parens-sound d x ts t us k inner e =
 
 -- ---- operators
 
--- a right side behind a left side
-abbrev Joins : ℕ → Op → List Token → Tree → List Token → Tree → List Token → Type 0
-Joins d o l a ts b vs = (m : List Token) × (l ++ ts ≡ m ++ vs) × Derives d (level o) m (joined o a b)
+-- a right side after a left side
+abbrev JoinedBy : ℕ → Op → List Token → Tree → List Token → Tree → List Token → Type 0
+JoinedBy d o l a ts b vs = (m : List Token) × (l ++ ts ≡ m ++ vs) × Derives d (level o) m (joined o a b)
 
 -- an operator that is written
 written-joins : (d : ℕ) (o : Op) (t : Token) (l : List Token) (a : Tree) (ts w : List Token) (b : Tree) (vs : List Token)
     → Derives d (level o) (l ++ t ∷ w) (joined o a b)
-    → ts ≡ t ∷ behind ts → behind ts ≡ w ++ vs → Joins d o l a ts b vs
+    → ts ≡ t ∷ afterFront ts → afterFront ts ≡ w ++ vs → JoinedBy d o l a ts b vs
 written-joins d o t l a ts w b vs j p q =
     (l ++ t ∷ w, ap (λ ws. l ++ ws) (p ∙ ap (λ ws. t ∷ ws) q) ∙ sym (append-assoc l (t ∷ w) vs), j)
 
-either-left : (a : Bool) → either a false ≡ true → a ≡ true
-either-left true e = refl
-either-left false e = e
-
 joins : (d : ℕ) (o : Op) (l : List Token) (a : Tree) (ts w : List Token) (b : Tree) (vs : List Token)
-    → goesOn o ts ≡ true → rightSide o ts ≡ w ++ vs → Derives d (level o) l a → Derives d (tighter o) w b → Joins d o l a ts b vs
+    → goesOn o ts ≡ true → rightSide o ts ≡ w ++ vs → Derives d (level o) l a → Derives d (tighter o) w b → JoinedBy d o l a ts b vs
 joins d OR l a ts w b vs g e i j =
-    let h = either-left (eqb (frontKind ts) (opKind OR)) g in
+    let h = sym (either-none (eqb (frontKind ts) (opKind OR))) ∙ g in
     written-joins d OR token.OR l a ts w b vs (or i j) (front-plain (opKind OR) ts (omega arith) (eqb-true (frontKind ts) (opKind OR) h)) (rw h at e)
 joins d NOT l a ts w b vs g e i j =
-    let h = either-left (eqb (frontKind ts) (opKind NOT)) g in
+    let h = sym (either-none (eqb (frontKind ts) (opKind NOT))) ∙ g in
     written-joins d NOT token.NOT l a ts w b vs (not i j) (front-plain (opKind NOT) ts (omega arith) (eqb-true (frontKind ts) (opKind NOT) h)) (rw h at e)
 joins d AND l a ts w b vs g e i j =
     bool-case (eqb (frontKind ts) (opKind AND))
@@ -160,8 +155,8 @@ mutual
       (λ h e. chain-sound zero ts t us e)
       e
   sound (suc f) (suc d) near ts t us e =
-      pick-lazy-case (λ x. x ≡ found t us → Front (suc d) near ts t us) (eqb (frontKind ts) (kindOf lparen)) (λ _. andThen (parse f d (level OR) (behind ts)) closed) (λ _. chainOf ts)
-      (λ h e. parens-sound d (parse f d (level OR) (behind ts)) ts t us (eqb-true (frontKind ts) (kindOf lparen) h) (λ a vs. sound f d (level OR) (behind ts) a vs) e)
+      pick-lazy-case (λ x. x ≡ found t us → Front (suc d) near ts t us) (eqb (frontKind ts) (kindOf lparen)) (λ _. parsedThen (parse f d (level OR) (afterFront ts)) closed) (λ _. chainOf ts)
+      (λ h e. parens-sound d (parse f d (level OR) (afterFront ts)) ts t us (eqb-true (frontKind ts) (kindOf lparen) h) (λ a vs. sound f d (level OR) (afterFront ts) a vs) e)
       (λ h e. chain-sound (suc d) ts t us e)
       e
 
@@ -170,7 +165,7 @@ mutual
   goes-on-sound zero d o l a ts t us i e = never-found e
   goes-on-sound (suc f) d o l a ts t us i e =
       pick-lazy-case (λ x. x ≡ found t us → Front d (level o) (l ++ ts) t us) (goesOn o ts)
-      (λ _. andThen (parse f d (tighter o) (rightSide o ts)) (λ r us. goOn f d o (joined o a r) us)) (λ _. found a ts)
+      (λ _. parsedThen (parse f d (tighter o) (rightSide o ts)) (λ r us. goOn f d o (joined o a r) us)) (λ _. found a ts)
       (λ h e.
       let w = then-found {x = parse f d (tighter o) (rightSide o ts)} {k = λ r us. goOn f d o (joined o a r) us} e in
       let r = sound f d (tighter o) (rightSide o ts) (w .0) (w .1) (w .2) in

@@ -15,8 +15,8 @@ use Rattle.query.specs.declared.Parse.{Parse}
 use Rattle.query.specs.Tree.{OR, Tree, treeNodes, postfix, packedOps}
 use Rattle.query.specs.Grammar.{level, maxDepth}
 use Rattle.query.specs.Parsing.{Parsed, found, parse, fuel, whole, treeOf}
-use Rattle.query.specs.Kinds.{noOps, pushAll, Shows, Answers, Mirrors}
-use Rattle.query.specs.Reading.{refusal, readingOf, TokensOf}
+use Rattle.query.specs.Kinds.{noOps, pushCodes, TokensAt, ParseIs, Mirrors}
+use Rattle.query.specs.Reading.{refusedReading, readingOf, TokensOf}
 use Rattle.query.proofs.Sound.{tree-sound}
 use Rattle.query.proofs.Nodes.{tree-nodes}
 use Rattle.query.proofs.Bounds.{tokens-few, query-codes}
@@ -48,23 +48,23 @@ module _ (l : Lexed) (ts : List Token) (h : TokensOf l ts) where
     abbrev parsed : Parsed
     parsed = parse (fuel (level OR) ts) maxDepth (level OR) ts
 
-    answered : Answers kinds noOps parsed r
+    answered : ParseIs kinds noOps parsed r
     answered = a .answers ts e (fuel (level OR) ts) (omega arith)
 
-    pub parse-fails : r .ok ≡ false → refusal ≡ readingOf (treeOf ts)
+    pub parse-fails : r .ok ≡ false → refusedReading ≡ readingOf (treeOf ts)
     unfolding treeOf
     parse-fails k = sym (ap (λ x. readingOf (whole x)) (answers-refused kinds noOps parsed r answered k .0))
 
     module _ (k : r .ok ≡ true) where
-      got : (t : Tree) × (us : List Token) × (parsed ≡ found t us) × Shows kinds (r .at) us × (r .ops ≡ pushAll (postfix t) noOps)
+      got : (t : Tree) × (us : List Token) × (parsed ≡ found t us) × TokensAt kinds (r .at) us × (r .ops ≡ pushCodes (postfix t) noOps)
       got = answers-found kinds noOps parsed r answered k
 
       -- tokens are left
-      pub parse-stops : r .at < length ts → refusal ≡ readingOf (treeOf ts)
+      pub parse-stops : r .at < length ts → refusedReading ≡ readingOf (treeOf ts)
       unfolding treeOf
       parse-stops lt = go got
         where
-          go : (t : Tree) × (us : List Token) × (parsed ≡ found t us) × Shows kinds (r .at) us × (r .ops ≡ pushAll (postfix t) noOps) → refusal ≡ readingOf (treeOf ts)
+          go : (t : Tree) × (us : List Token) × (parsed ≡ found t us) × TokensAt kinds (r .at) us × (r .ops ≡ pushCodes (postfix t) noOps) → refusedReading ≡ readingOf (treeOf ts)
           go (t, [], x, s, o) =
               let n = shows-length kinds (r .at) [] s in
               let m : length kinds ≡ length ts = ap length e ∙ length-map ts kindOf in
@@ -76,7 +76,7 @@ module _ (l : Lexed) (ts : List Token) (h : TokensOf l ts) where
       unfolding treeOf
       parse-reads le = go got
         where
-          go : (t : Tree) × (us : List Token) × (parsed ≡ found t us) × Shows kinds (r .at) us × (r .ops ≡ pushAll (postfix t) noOps)
+          go : (t : Tree) × (us : List Token) × (parsed ≡ found t us) × TokensAt kinds (r .at) us × (r .ops ≡ pushCodes (postfix t) noOps)
               → record { ok = true; query = record { words = l .words; ops = r .ops } } ≡ readingOf (treeOf ts)
           go (t, u ∷ us, x, s, o) =
               let n = shows-length kinds (r .at) (u ∷ us) s in

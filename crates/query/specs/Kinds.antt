@@ -20,12 +20,12 @@ use Rattle.query.specs.Parsing.{Parsed, found, refused, opKind, opens, c
 -- ---- codes
 
 -- one code more, while there is room
-unfoldable pub pushed : Ops → ℕ → Ops
-pushed ops code = pick (ltb (ops .len) maxCodes) (record { codes = set (ops .codes) (ops .len) code; len = ops .len + 1 }) ops
+unfoldable pub pushCode : Ops → ℕ → Ops
+pushCode ops code = pick (ltb (ops .len) maxCodes) (record { codes = set (ops .codes) (ops .len) code; len = ops .len + 1 }) ops
 
-unfoldable pub pushAll : List ℕ → Ops → Ops
-pushAll [] ops = ops
-pushAll (c ∷ cs) ops = pushAll cs (pushed ops c)
+unfoldable pub pushCodes : List ℕ → Ops → Ops
+pushCodes [] ops = ops
+pushCodes (c ∷ cs) ops = pushCodes cs (pushCode ops c)
 
 abbrev pub noOps : Ops
 noOps = record { codes = replicate maxCodes 0; len = 0 }
@@ -42,13 +42,13 @@ abbrev pub refusedParse : Parse
 refusedParse = record { ok = false; at = 0; ops = noOps }
 
 -- the tokens from the place `at` on
-abbrev pub Shows : List ℕ → ℕ → List Token → Type 0
-Shows kinds at ts = drop at kinds ≡ kindsOf ts
+abbrev pub TokensAt : List ℕ → ℕ → List Token → Type 0
+TokensAt kinds at ts = drop at kinds ≡ kindsOf ts
 
 -- the answer `r`, where the codes so far were `ops`, for what the parser finds
-abbrev pub Answers : List ℕ → Ops → Parsed → Parse → Type 0
-Answers kinds ops (found t us) r = (r .ok ≡ true) × Shows kinds (r .at) us × (r .ops ≡ pushAll (postfix t) ops)
-Answers kinds ops refused r = r ≡ refusedParse
+abbrev pub ParseIs : List ℕ → Ops → Parsed → Parse → Type 0
+ParseIs kinds ops (found t us) r = (r .ok ≡ true) × TokensAt kinds (r .at) us × (r .ops ≡ pushCodes (postfix t) ops)
+ParseIs kinds ops refused r = r ≡ refusedParse
 
 -- the place goes on, and stays in the row
 abbrev pub Moves : List ℕ → ℕ → Parse → Type 0
@@ -56,10 +56,10 @@ Moves kinds at r = r .ok ≡ true → (at < r .at) × (r .at ≤ length kinds)
 
 -- what the function for NEAR chains answers
 pub record Chained (kinds : List ℕ) (at : ℕ) (ops : Ops) (r : Parse) : Type 0 where
-  pub answers : (ts : List Token) → Shows kinds at ts → Answers kinds ops (chainOf ts) r
+  pub answers : (ts : List Token) → TokensAt kinds at ts → ParseIs kinds ops (chainOf ts) r
   pub moves : Moves kinds at r
 
 -- what a level's function answers: what the parser finds with any fuel that is enough
 pub record Mirrors (kinds : List ℕ) (depth : ℕ) (k : Level) (at : ℕ) (ops : Ops) (r : Parse) : Type 0 where
-  pub answers : (ts : List Token) → Shows kinds at ts → (f : ℕ) → fuel k ts ≤ f → Answers kinds ops (parse f depth k ts) r
+  pub answers : (ts : List Token) → TokensAt kinds at ts → (f : ℕ) → fuel k ts ≤ f → ParseIs kinds ops (parse f depth k ts) r
   pub moves : Moves kinds at r

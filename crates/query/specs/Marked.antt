@@ -9,8 +9,8 @@ use Rattle.query.specs.Tree.{OR, AND, Tree, leaf, joined}
 use Rattle.query.specs.Grammar.{Reads}
 
 -- node, sent, outcome
-abbrev pub columnNames : List (List ℕ)
-columnNames =
+abbrev pub exampleNames : List (List ℕ)
+exampleNames =
     (110 ∷ 111 ∷ 100 ∷ 101 ∷ []) ∷
     (115 ∷ 101 ∷ 110 ∷ 116 ∷ []) ∷
     (111 ∷ 117 ∷ 116 ∷ 99 ∷ 111 ∷ 109 ∷ 101 ∷ []) ∷ []
@@ -36,6 +36,6 @@ abbrev pub marked : List Example
 marked =
     record {
       number = 14;
-      claim = Reads columnNames text (joined OR (joined AND (wordTree sqlite) (wordTree fantastic)) (wordTree impressive));
+      claim = Reads exampleNames text (joined OR (joined AND (wordTree sqlite) (wordTree fantastic)) (wordTree impressive));
     }
     ∷ []

@@ -10,26 +10,24 @@ use lib.Dec.{eqb}
 use Rattle.common.specs.Pick.{pick, pickLazy, either}
 use Rattle.lexer.specs.Token.{Token, lparen, rparen, NEAR, operand, Phrase, kindOf}
 use Rattle.lexer.specs.Token as token
+use Rattle.lexer.specs.Filling.{operandKind}
 use Rattle.query.specs.Tree.{Op, OR, AND, NOT, Chain, Tree, leaf, joined}
 use Rattle.query.specs.Grammar.{Level, near, level, tighter, maxDepth}
 
--- a tree and the tokens behind it, or nothing that is in the language
+-- a tree and the tokens after it, or nothing that is in the language
 pub data Parsed : Type 0 where
   found : Tree → List Token → Parsed
   refused : Parsed
 
-abbrev pub andThen : Parsed → (Tree → List Token → Parsed) → Parsed
-andThen (found t ts) k = k t ts
-andThen refused k = refused
+abbrev pub parsedThen : Parsed → (Tree → List Token → Parsed) → Parsed
+parsedThen (found t ts) k = k t ts
+parsedThen refused k = refused
 
 -- ---- the token at the front
 
--- the kinds of NEAR and of an operand, whatever they carry, and beside those of `kindOf` one for no token
+-- the kind of NEAR, whatever it carries, and beside those of `kindOf` one for no token
 abbrev pub nearKind : ℕ
 nearKind = 5
-
-abbrev pub operandKind : ℕ
-operandKind = 6
 
 abbrev pub endKind : ℕ
 endKind = 7
@@ -38,10 +36,10 @@ abbrev pub frontKind : List Token → ℕ
 frontKind [] = endKind
 frontKind (t ∷ ts) = kindOf t
 
--- the tokens behind it
-abbrev pub behind : List Token → List Token
-behind [] = []
-behind (t ∷ ts) = ts
+-- the tokens after it
+abbrev pub afterFront : List Token → List Token
+afterFront [] = []
+afterFront (t ∷ ts) = ts
 
 -- ---- the right side of an operator
 
@@ -66,7 +64,7 @@ abbrev pub goesOn : Op → List Token → Bool
 goesOn o ts = either (eqb (frontKind ts) (opKind o)) (unwritten o (frontKind ts))
 
 abbrev pub rightSide : Op → List Token → List Token
-rightSide o ts = pick (eqb (frontKind ts) (opKind o)) (behind ts) ts
+rightSide o ts = pick (eqb (frontKind ts) (opKind o)) (afterFront ts) ts
 
 -- ---- NEAR chains
 
@@ -74,7 +72,7 @@ rightSide o ts = pick (eqb (frontKind ts) (opKind o)) (behind ts) ts
 abbrev pub extended : Chain → token.Distance → Phrase → Chain
 extended c n p = record { first = c .first; links = c .links ++ (record { distance = n; phrase = p } ∷ []) }
 
--- as many links as there are behind the chain `c`
+-- as many links as there are after the chain `c`
 unfoldable pub linksOf : Chain → List Token → Parsed
 linksOf c (NEAR n ∷ operand p ∷ ts) = linksOf (extended c n p) ts
 linksOf c (NEAR n ∷ []) = refused
@@ -107,22 +105,22 @@ chainOf (NEAR n ∷ ts) = refused
 
 -- a parenthesis closes what was found
 abbrev pub closed : Tree → List Token → Parsed
-closed t ts = pick (eqb (frontKind ts) (kindOf rparen)) (found t (behind ts)) refused
+closed t ts = pick (eqb (frontKind ts) (kindOf rparen)) (found t (afterFront ts)) refused
 
 unfoldable mutual
   -- with fuel, at a depth and a level
   pub parse : ℕ → ℕ → Level → List Token → Parsed
   parse zero d k ts = refused
-  parse (suc f) d (level o) ts = andThen (parse f d (tighter o) ts) (λ t us. goOn f d o t us)
+  parse (suc f) d (level o) ts = parsedThen (parse f d (tighter o) ts) (λ t us. goOn f d o t us)
   parse (suc f) zero near ts = pick (eqb (frontKind ts) (kindOf lparen)) refused (chainOf ts)
-  parse (suc f) (suc d) near ts = pickLazy (eqb (frontKind ts) (kindOf lparen)) (λ _. andThen (parse f d (level OR) (behind ts)) closed) (λ _. chainOf ts)
+  parse (suc f) (suc d) near ts = pickLazy (eqb (frontKind ts) (kindOf lparen)) (λ _. parsedThen (parse f d (level OR) (afterFront ts)) closed) (λ _. chainOf ts)
 
-  -- further right sides behind the left side `l`
+  -- further right sides after the left side `l`
   pub goOn : ℕ → ℕ → Op → Tree → List Token → Parsed
   goOn zero d o l ts = refused
   goOn (suc f) d o l ts =
       pickLazy (goesOn o ts)
-      (λ _. andThen (parse f d (tighter o) (rightSide o ts)) (λ r us. goOn f d o (joined o l r) us))
+      (λ _. parsedThen (parse f d (tighter o) (rightSide o ts)) (λ r us. goOn f d o (joined o l r) us))
       (λ _. found l ts)
 
 -- a level takes one unit, and a token at most four, one for each level

@@ -18,8 +18,8 @@ use Rattle.query.specs.Parsing.{Parsed, found, treeOf}
 use Rattle.query.specs.Parsing as parsing
 
 -- the answer to bytes that are no query
-abbrev pub refusal : Reading
-refusal = record { ok = false; query = record { words = packed []; ops = packedOps [] } }
+abbrev pub refusedReading : Reading
+refusedReading = record { ok = false; query = record { words = packed []; ops = packedOps [] } }
 
 -- the answer to a query
 abbrev pub reading : Tree → Reading
@@ -33,13 +33,13 @@ pub record Compiles (names : List (List ℕ)) (s : List ℕ) (r : Reading) : Typ
   pub content : (t : Tree) → Reads names s t → r ≡ reading t
   -- which is one tree and no other
   pub unique : (t u : Tree) → Reads names s t → Reads names s u → t ≡ u
-  pub otherwise : r .ok ≡ false → r ≡ refusal
+  pub otherwise : r .ok ≡ false → r ≡ refusedReading
 
 -- ---- computed from the tokens
 
 abbrev pub readingOf : Parsed → Reading
 readingOf (found t ts) = reading t
-readingOf parsing.refused = refusal
+readingOf parsing.refused = refusedReading
 
 -- the lexer's answer for the tokens `ts`
 pub record TokensOf (l : Lexed) (ts : List Token) : Type 0 where
@@ -51,8 +51,8 @@ pub record TokensOf (l : Lexed) (ts : List Token) : Type 0 where
 -- ---- computed from the bytes
 
 abbrev pub tokensRead : Lexing → Reading
-tokensRead (tokens ts) = pick (isWithin ts) (readingOf (treeOf ts)) refusal
-tokensRead refused = refusal
+tokensRead (tokens ts) = pick (isWithin ts) (readingOf (treeOf ts)) refusedReading
+tokensRead refused = refusedReading
 
 abbrev pub readOf : List (List ℕ) → List ℕ → Reading
-readOf names s = pick (leb (length s) maxQuery) (tokensRead (lexOf names s)) refusal
+readOf names s = pick (leb (length s) maxQuery) (tokensRead (lexOf names s)) refusedReading

@@ -14,7 +14,7 @@ pub data Op : Type 0 where
   AND : Op
   NOT : Op
 
--- NEAR with what is written at it, and the phrase behind it
+-- NEAR with what is written at it, and the phrase after it
 pub record Link : Type 0 where
   pub distance : Distance
   pub phrase : Phrase
@@ -42,7 +42,7 @@ abbrev pub treeNodes : Tree → List Node
 treeNodes (leaf c) = chainNodes c
 treeNodes (joined o a b) = treeNodes a ++ treeNodes b
 
--- ---- the operators in postfix order: a code for each chain, and for each operator behind its two sides
+-- ---- the operators in postfix order: a code for each chain, and for each operator after its two sides
 
 abbrev pub chainCode : ℕ
 chainCode = 0

@@ -11,8 +11,8 @@ ghost use Rattle.offsets.specs.Cut.{cut};
 ghost use Rattle.lexer.specs.Token.{Token, maxQuery};
 ghost use Rattle.query.specs.Tree.{OR, AND, NOT};
 ghost use Rattle.query.specs.Grammar.{near, level};
-ghost use Rattle.query.specs.Kinds.{rightAt, pushed, noOps, refusedParse, Chained, Mirrors};
-ghost use Rattle.query.specs.Reading.{refusal, readingOf, TokensOf, readOf, Compiles};
+ghost use Rattle.query.specs.Kinds.{rightAt, pushCode, noOps, refusedParse, Chained, Mirrors};
+ghost use Rattle.query.specs.Reading.{refusedReading, readingOf, TokensOf, readOf, Compiles};
 ghost use Rattle.query.specs.Parsing.{endKind, treeOf};
 
 // A query of 16 words has at most 16 NEAR chains and 15 operators.
@@ -30,7 +30,7 @@ pub const CODE_OR: u8 = 2;
 
 pub const CODE_NOT: u8 = 3;
 
-// The kind of no token: what stands behind the last one.
+// The kind of no token: what stands after the last one.
 const END: u8 = 7;
 
 // The NEAR chains and operators of a query in postfix order, a code for each.
@@ -76,7 +76,7 @@ fn kind_at(kinds: &[u8], at: usize) -> u8
     END
 }
 
-// The right side of an operator: behind it, or, where an AND is not written, where an operand begins.
+// The right side of an operator: after it, or, where an AND is not written, where an operand begins.
 fn right_side(kinds: &[u8], at: usize, operator: u8) -> Right
     requires { ⌜ at ≤ length (now kinds) ⌝ }
     ensures { λ r. ⌜ r ≡ rightAt operator (getD (now (kinds .entry)) at endKind) at ⌝ }
@@ -121,7 +121,7 @@ fn refused() -> Parse
 
 // One code more; past the end nothing is stored. A query of at most 16 words never comes there.
 fn push(ops: Ops, code: u8) -> Ops
-    ensures { λ r. ⌜ r ≡ pushed ops code ⌝ }
+    ensures { λ r. ⌜ r ≡ pushCode ops code ⌝ }
 {
     let mut more = ops;
     let n = ops.len;
@@ -132,7 +132,7 @@ fn push(ops: Ops, code: u8) -> Ops
     more
 }
 
-// Reads a NEAR chain: a word or phrase, and further ones behind NEAR.
+// Reads a NEAR chain: a word or phrase, and further ones after NEAR.
 fn chain(kinds: &[u8], at: usize, ops: Ops) -> Parse
     requires { ⌜ at ≤ length (now kinds) ⌝ }
     ensures { λ r. ⌜ Chained (now (kinds .entry)) at ops r ⌝ }
@@ -277,7 +277,7 @@ fn operand_level(kinds: &[u8], depth: usize, at: usize, ops: Ops) -> Parse
 
 // The answer to all bytes that are no query.
 fn refusal() -> Reading
-    ensures { λ r. ⌜ r ≡ refusal ⌝ }
+    ensures { λ r. ⌜ r ≡ refusedReading ⌝ }
 {
     let words = lexer::Words {
         text: [0; lexer::MAX_QUERY],

@@ -1,28 +1,18 @@
 -- The positions of a body are read one after the other, exactly (`stepped`).
-use Prim.Native.Nat.{ℕ, zero, suc, _+_, _-_, _^_, _≤_, _<_}
+use Prim.Native.Nat.{ℕ, zero, suc, _+_, _-_, _≤_, _<_}
 use native.Mathlib.Omega.{arith}
 use mathlib.Core.Path.{_≡_, refl, sym, ap, _∙_, subst}
 use mathlib.Core.List.{List, [], _∷_, _++_, append-assoc}
 use lib.ListN.{length, drop}
 use borrow.Author.Tests.{lt-ltb, le-ltb, ne-eqb}
-use Rattle.common.proofs.Lists.{drop-past}
-use Rattle.varint.specs.Varint.{encode, maxBytes, readAt}
+use Rattle.varint.specs.Varint.{encode, readAt}
 use Rattle.varint.specs.declared.Varint.the-variants.{Value}
-use Rattle.varint.proofs.Laws.{reads}
 use Rattle.doclist.specs.Doclist.{Column, positionLimit, Rising, NotEmpty, Columns, positionNumbers, announced, columnNumbers, encodeAll}
+use Rattle.doclist.proofs.Numbers.{next-number}
 use Rattle.row.specs.Row.{bodyBytes, BodyAt}
-use Rattle.row.specs.Walk.{Spot, columnSpots, spots, positionOf, stepOf, Ahead}
+use Rattle.row.specs.Walk.{Spot, columnSpots, spots, positionStep, stepOf, Ahead}
 use Rattle.row.specs.declared.Step.{Step}
 use Rattle.row.specs.declared.Step.the-variants.{At, Done}
-
--- ---- numbers one after the other
-
--- the first of several numbers is read, and the others lie behind it
-number-read : (s : List ℕ) (at v : ℕ) (vs rest : List ℕ) → v < 2 ^ 63 → drop at s ≡ encodeAll (v ∷ vs) ++ rest
-    → (readAt s at ≡ Value v (at + length (encode v))) × (drop (at + length (encode v)) s ≡ encodeAll vs ++ rest)
-number-read s at v vs rest h e =
-    let f : drop at s ≡ encode v ++ (encodeAll vs ++ rest) = e ∙ append-assoc (encode v) (encodeAll vs) rest in
-    (reads maxBytes s at v (encodeAll vs ++ rest) (omega arith) h f, drop-past s at (encode v) (encodeAll vs ++ rest) f)
 
 -- ---- a step
 
@@ -36,13 +26,13 @@ Stepped leaves (s ∷ ahead) r =
 abbrev remaining : ℕ → List ℕ → List Column → List ℕ
 remaining base ps cs = positionNumbers base ps ++ (columnNumbers cs ++ (0 ∷ []))
 
-position-good : (column base p next : ℕ) → base ≤ p → p < positionLimit → positionOf column base (p - base + 2) next ≡ At column p next
+position-good : (column base p next : ℕ) → base ≤ p → p < positionLimit → positionStep column base (p - base + 2) next ≡ At column p next
 position-good column base p next hb hp =
     simp (le-ltb (p - base + 2) 2 (omega arith), lt-ltb base positionLimit (omega arith), lt-ltb (base + (p - base + 2 - 2)) positionLimit (omega arith))
     (ap (λ (n : ℕ). At column n next) (omega arith))
 
 module _ (leaves rest : List ℕ) where
-  -- a position that is read: the rest of its column and the columns behind it are ahead
+  -- a position that is read: the rest of its column and the columns after it are ahead
   read-position : (column base at low p : ℕ) (ps : List ℕ) (cs : List Column)
       → drop at leaves ≡ encodeAll (remaining base (p ∷ ps) cs) ++ rest
       → base ≤ low
@@ -50,10 +40,10 @@ module _ (leaves rest : List ℕ) where
       → Columns (suc column) 16 cs
       → (next : ℕ)
       × (readAt leaves at ≡ Value (p - base + 2) next)
-      × (positionOf column base (p - base + 2) next ≡ At column p next)
+      × (positionStep column base (p - base + 2) next ≡ At column p next)
       × Ahead leaves column p next (columnSpots column ps ++ spots cs)
   read-position column base at low p ps cs e hb r h =
-      let n = number-read leaves at (p - base + 2) (remaining p ps cs) rest (omega (arith, r .1)) e in
+      let n = next-number leaves at (p - base + 2) (remaining p ps cs) rest (omega (arith, r .1)) e in
       let next : ℕ = at + length (encode (p - base + 2)) in (
         next,
         n .0,
@@ -84,16 +74,16 @@ module _ (leaves rest : List ℕ) where
   step-column column base at zero ps cs e z l n r h = absurd (omega arith)
   step-column column base at (suc c) [] cs e z l n r h = absurd n
   step-column column base at (suc c) (p ∷ ps) cs e z l n r h =
-      let one = number-read leaves at 1 (suc c ∷ remaining 0 (p ∷ ps) cs) rest (omega arith) e in
+      let one = next-number leaves at 1 (suc c ∷ remaining 0 (p ∷ ps) cs) rest (omega arith) e in
       let a : ℕ = at + length (encode 1) in
-      let two = number-read leaves a (suc c) (remaining 0 (p ∷ ps) cs) rest (omega arith) (one .1) in
+      let two = next-number leaves a (suc c) (remaining 0 (p ∷ ps) cs) rest (omega arith) (one .1) in
       let b : ℕ = a + length (encode (suc c)) in
       let three = read-position (suc c) 0 b 0 p ps cs (two .1) (omega arith) r h in
       (three .0, simp (one .0, two .0, three .1) (three .2), three .3)
 
   -- at the end
   step-end : (column base at : ℕ) → drop at leaves ≡ encodeAll (0 ∷ []) ++ rest → stepOf leaves column base at ≡ Done
-  step-end column base at e = let n = number-read leaves at 0 [] rest (omega arith) e in simp (n .0)
+  step-end column base at e = let n = next-number leaves at 0 [] rest (omega arith) e in simp (n .0)
 
   step-rest : (column base at low : ℕ) (ps : List ℕ) (cs : List Column)
       → drop at leaves ≡ encodeAll (remaining base ps cs) ++ rest

@@ -11,10 +11,10 @@ use lib.Dec.{eqb}
 use borrow.Author.Tests.{eqb-true, eq-eqb, ne-eqb}
 use Rattle.common.specs.Pick.{pick}
 use Rattle.common.proofs.Cases.{pick-case}
-use Rattle.varint.specs.Varint.{maxBytes}
+use Rattle.varint.specs.Varint.{maxVarint}
 use Rattle.varint.proofs.Laws.{encode-pos}
 use Rattle.doclist.specs.Doclist.{Column, Columns, positionNumbers, columnNumbers, encodeAll}
-use Rattle.lexer.specs.Token.{allows}
+use Rattle.common.specs.Bits.{contains}
 use Rattle.meaning.specs.Index.{positionsIn}
 use Rattle.row.specs.Row.{Hit, StandsIn, bodyBytes, RowIs, bodiesSize}
 use Rattle.row.specs.Walk.{Spot, spot, columnSpots, spots, candidates}
@@ -67,8 +67,8 @@ module _ (column position : ℕ) where
 -- ---- the positions of a row
 
 module _ (leaves : List ℕ) (i column position : ℕ) where
-  here : (h : Hit) (cs : List Spot) → allows (h .mask) i ≡ true → List·Memᴰ position (positionsIn column (h .columns))
-      → List·Memᴰ (spot column position) (pick (allows (h .mask) i) (spots (h .columns)) [] ++ cs)
+  here : (h : Hit) (cs : List Spot) → contains (h .mask) i ≡ true → List·Memᴰ position (positionsIn column (h .columns))
+      → List·Memᴰ (spot column position) (pick (contains (h .mask) i) (spots (h .columns)) [] ++ cs)
   here h cs t m = rw t (Memᴰ·append-left cs (spots-in column position (h .columns) m))
 
   there : (starts masks : List ℕ) (hits : List Hit) → RowIs leaves starts masks hits → StandsIn hits i column position
@@ -79,16 +79,16 @@ module _ (leaves : List ℕ) (i column position : ℕ) where
   there (b ∷ starts) (m ∷ masks) (h ∷ hits) row s =
       ⊎-elim
       (λ e.
-      here h (candidates i hits) (ap (λ (h : Hit). allows (h .mask) i) (sym e) ∙ s .2)
+      here h (candidates i hits) (ap (λ (h : Hit). contains (h .mask) i) (sym e) ∙ s .2)
       (subst (λ (h : Hit). List·Memᴰ position (positionsIn column (h .columns))) e (s .3)))
-      (λ n. Memᴰ·append-right (pick (allows (h .mask) i) (spots (h .columns)) []) (there starts masks hits (row .2) (s .0, n, s .2, s .3)))
+      (λ n. Memᴰ·append-right (pick (contains (h .mask) i) (spots (h .columns)) []) (there starts masks hits (row .2) (s .0, n, s .2, s .3)))
       (List·Memᴰ·cases-cons (s .1))
 
-  back-here : (h : Hit) (hits : List Hit) → Columns 0 16 (h .columns) → List·Memᴰ (spot column position) (pick (allows (h .mask) i) (spots (h .columns)) [])
+  back-here : (h : Hit) (hits : List Hit) → Columns 0 16 (h .columns) → List·Memᴰ (spot column position) (pick (contains (h .mask) i) (spots (h .columns)) [])
       → StandsIn (h ∷ hits) i column position
   back-here h hits good =
       pick-case (λ (l : List Spot). List·Memᴰ (spot column position) l → StandsIn (h ∷ hits) i column position)
-      (allows (h .mask) i) (spots (h .columns)) []
+      (contains (h .mask) i) (spots (h .columns)) []
       (λ t m. (h, List·Memᴰ·head refl, t, in-spots column position 0 (h .columns) good m))
       (λ t m. absurd (List·Memᴰ·not-nil m))
 
@@ -101,7 +101,7 @@ module _ (leaves : List ℕ) (i column position : ℕ) where
       ⊎-elim
       (λ n. back-here h hits (row .0 .good) n)
       (λ n. let s = back starts masks hits (row .2) n in (s .0, List·Memᴰ·tail (s .1), s .2, s .3))
-      (List·Memᴰ·append-cases (pick (allows (h .mask) i) (spots (h .columns)) []) m)
+      (List·Memᴰ·append-cases (pick (contains (h .mask) i) (spots (h .columns)) []) m)
 
   -- the candidates for a word are the positions where it stands
   pub candidate-in : (starts masks : List ℕ) (hits : List Hit) → RowIs leaves starts masks hits
@@ -123,7 +123,7 @@ spots-numbers (c ∷ cs) =
 
 numbers-bytes : (vs : List ℕ) → length vs ≤ length (encodeAll vs)
 numbers-bytes [] = omega arith
-numbers-bytes (v ∷ vs) = let h = numbers-bytes vs in let p = encode-pos maxBytes v (omega arith) in simp length-append (omega arith)
+numbers-bytes (v ∷ vs) = let h = numbers-bytes vs in let p = encode-pos maxVarint v (omega arith) in simp length-append (omega arith)
 
 -- an entry has no more positions than its body has bytes
 pub spots-count : (cs : List Column) → length (spots cs) ≤ length (bodyBytes cs)
@@ -136,6 +136,6 @@ pub candidates-count : (i : ℕ) (hits : List Hit) → length (candidates i hits
 candidates-count i [] = omega arith
 candidates-count i (h ∷ hits) =
     let n = candidates-count i hits in
-    let k : length (pick (allows (h .mask) i) (spots (h .columns)) []) ≤ length (bodyBytes (h .columns)) =
-    pick-case (λ (l : List Spot). length l ≤ length (bodyBytes (h .columns))) (allows (h .mask) i) (spots (h .columns)) [] (λ _. spots-count (h .columns)) (λ _. omega arith) in
+    let k : length (pick (contains (h .mask) i) (spots (h .columns)) []) ≤ length (bodyBytes (h .columns)) =
+    pick-case (λ (l : List Spot). length l ≤ length (bodyBytes (h .columns))) (contains (h .mask) i) (spots (h .columns)) [] (λ _. spots-count (h .columns)) (λ _. omega arith) in
     simp length-append (omega arith)

@@ -1,7 +1,6 @@
 -- The positions of a row are found one after the other, exactly, and a walk comes to an end, whatever the bytes are:
 -- `first-kept`, `next-kept`.
-use Prim.Native.Nat.{ℕ, suc, _+_, _-_, _*_, _≤_, _<_}
-use native.Mathlib.Nat.{mul-le-mul-right, suc-mul}
+use Prim.Native.Nat.{ℕ, suc, _+_, _-_, _≤_, _<_}
 use native.Mathlib.Numerals.{add-one}
 use native.Mathlib.Omega.{arith}
 use mathlib.Core.Path.{_≡_, refl, sym, ap, ap₂, _∙_, subst}
@@ -13,12 +12,13 @@ use borrow.Author.Tests.{ltb-true}
 use Rattle.common.specs.Pick.{pick}
 use Rattle.common.proofs.Cases.{bool-case, pick-case}
 use Rattle.common.proofs.Lists.{drop-head}
+use Rattle.common.proofs.Numbers.{later-nearer}
 use Rattle.varint.specs.Varint.{readAt}
 use Rattle.varint.proofs.Laws.{varint-case, stored-at, next-after, next-within}
 use Rattle.doclist.specs.Doclist.{positionLimit}
-use Rattle.lexer.specs.Token.{allows}
+use Rattle.common.specs.Bits.{contains}
 use Rattle.row.specs.Row.{Hit, BodyAt, RowIs}
-use Rattle.row.specs.Walk.{Spot, spot, spots, candidates, WholeRow, positionOf, namedOf, stepOf, openedOf, foundOr, firstOf, nextOf, AheadOf, Finds, Small, left, First, Next}
+use Rattle.row.specs.Walk.{Spot, spot, spots, candidates, WholeRow, positionStep, namedOf, stepOf, openedOf, foundOr, firstOf, nextFound, AheadOf, Finds, SmallFound, left, First, NextPlace}
 use Rattle.row.specs.declared.Step.{Step}
 use Rattle.row.specs.declared.Step.the-variants as step
 use Rattle.row.specs.declared.Place.{Place}
@@ -48,7 +48,7 @@ StepWithin leaves at (step.At column position next) = (position < positionLimit)
 StepWithin leaves at step.Done = Unit {0}
 
 module _ (leaves : List ℕ) where
-  position-within : (column base value next at : ℕ) → at < next → next ≤ length leaves → StepWithin leaves at (positionOf column base value next)
+  position-within : (column base value next at : ℕ) → at < next → next ≤ length leaves → StepWithin leaves at (positionStep column base value next)
   position-within column base value next at h k =
       pick-case (StepWithin leaves at) (ltb value 2) step.Done _ (λ _. tt) λ _.
       pick-case (StepWithin leaves at) (ltb base positionLimit) _ step.Done
@@ -60,7 +60,7 @@ module _ (leaves : List ℕ) where
       varint-case (StepWithin leaves from) step.Done (readAt leaves at) (λ column next. _)
       (λ column next e.
       let m = next-after (omega arith) (stored-at leaves at column next .0 e) in
-      varint-case (StepWithin leaves from) step.Done (readAt leaves next) (λ value after. positionOf column 0 value after)
+      varint-case (StepWithin leaves from) step.Done (readAt leaves next) (λ value after. positionStep column 0 value after)
       (λ value after f.
       let s = stored-at leaves next value after .0 f in
       let n = next-after (omega arith) s in
@@ -71,7 +71,7 @@ module _ (leaves : List ℕ) where
   step-within : (column base at : ℕ) → StepWithin leaves at (stepOf leaves column base at)
   step-within column base at =
       varint-case (StepWithin leaves at) step.Done (readAt leaves at)
-      (λ value next. pick (eqb value 0) step.Done (pick (eqb value 1) (namedOf leaves next) (positionOf column base value next)))
+      (λ value next. pick (eqb value 0) step.Done (pick (eqb value 1) (namedOf leaves next) (positionStep column base value next)))
       (λ value next e.
       let s = stored-at leaves at value next .0 e in
       let n = next-after (omega arith) s in
@@ -101,36 +101,29 @@ first-hits leaves i hit [] masks = tt
 first-hits leaves i hit (s ∷ starts) [] = tt
 first-hits leaves i hit (s ∷ starts) (m ∷ masks) =
     first-or leaves hit (length starts) s (openedOf leaves i s m) (firstOf leaves i (suc hit) starts masks)
-    (pick-case (StepWithin leaves s) (allows m i) (stepOf leaves 0 0 s) step.Done (λ _. step-within leaves 0 0 s) (λ _. tt))
+    (pick-case (StepWithin leaves s) (contains m i) (stepOf leaves 0 0 s) step.Done (λ _. step-within leaves 0 0 s) (λ _. tt))
     (first-hits leaves i (suc hit) starts masks)
 
-first-small : (leaves : List ℕ) (hit n : ℕ) (r : Found) → FirstWithin leaves hit n r → Small r
+first-small : (leaves : List ℕ) (hit n : ℕ) (r : Found) → FirstWithin leaves hit n r → SmallFound r
 first-small leaves hit n (At p) h = h .0
 first-small leaves hit n Done h = tt
 
--- a later hit, or a later place of the same hit, is nearer to the end
-later-hit : (hits length hit next hit′ next′ : ℕ) → hit < hit′ → hit′ ≤ hits
-    → suc ((hits - hit′) * suc length + (length - next′)) < suc ((hits - hit) * suc length + (length - next))
-later-hit hits length hit next hit′ next′ h k =
-    let m : suc (hits - hit′) * suc length ≤ (hits - hit) * suc length = mul-le-mul-right (suc length) (omega arith) in
-    omega (arith, suc-mul (hits - hit′) (suc length))
-
 module _ (leaves starts masks : List ℕ) (i : ℕ) where
-  small-first : Small (firstOf leaves i 0 starts masks)
+  small-first : SmallFound (firstOf leaves i 0 starts masks)
   small-first = first-small leaves 0 (length starts) (firstOf leaves i 0 starts masks) (first-hits leaves i 0 starts masks)
 
 module _ (leaves starts masks : List ℕ) (i : ℕ) (p : Place) where
   ends : (r : Found) → FirstWithin leaves (p .hit) (length (drop (p .hit) starts)) r → left leaves starts r < left leaves starts (At p)
   ends (At q) h =
-      later-hit (length starts) (length leaves) (p .hit) (p .next) (q .hit) (q .next) (h .1) (omega (arith, h .1, h .2, length-drop (p .hit) starts))
+      later-nearer (length starts) (length leaves) (p .hit) (p .next) (q .hit) (q .next) (h .1) (omega (arith, h .1, h .2, length-drop (p .hit) starts))
   ends Done h = omega arith
 
   goes : (s : Step) (later : Found) → StepWithin leaves (p .next) s → FirstWithin leaves (p .hit) (length (drop (p .hit) starts)) later
-      → Small (foundOr (p .hit) s later) × (left leaves starts (foundOr (p .hit) s later) < left leaves starts (At p))
+      → SmallFound (foundOr (p .hit) s later) × (left leaves starts (foundOr (p .hit) s later) < left leaves starts (At p))
   goes (step.At column position next) later h k = (h .0, omega (arith, h .1, h .2))
   goes step.Done later h k = (first-small leaves (p .hit) (length (drop (p .hit) starts)) later k, ends later k)
 
-  next-falls : Small (nextOf leaves starts masks i p) × (left leaves starts (nextOf leaves starts masks i p) < left leaves starts (At p))
+  next-falls : SmallFound (nextFound leaves starts masks i p) × (left leaves starts (nextFound leaves starts masks i p) < left leaves starts (At p))
   next-falls =
       goes (stepOf leaves (p .column) (p .position) (p .next)) (firstOf leaves i (p .hit) (drop (p .hit) starts) (drop (p .hit) masks))
       (step-within leaves (p .column) (p .position) (p .next))
@@ -139,7 +132,7 @@ module _ (leaves starts masks : List ℕ) (i : ℕ) (p : Place) where
 -- ---- what is found
 
 module _ (leaves starts masks : List ℕ) (i : ℕ) where
-  -- a step in a hit, or else what is found in the hits behind it
+  -- a step in a hit, or else what is found in the hits after it
   finds-or : (hit : ℕ) (here : List Spot) (hits : List Hit) (s : Step) (later : Found) → Stepped leaves here s
       → RowIs leaves (drop hit starts) (drop hit masks) hits → length starts ≡ hit + length hits
       → Finds leaves starts masks i (candidates i hits) later
@@ -156,9 +149,9 @@ module _ (leaves starts masks : List ℕ) (i : ℕ) where
 
   -- the hit that is opened
   opened : (m : ℕ) (h : Hit) (s : ℕ) → BodyAt leaves s (h .columns) → m ≡ h .mask
-      → Stepped leaves (pick (allows (h .mask) i) (spots (h .columns)) []) (openedOf leaves i s m)
+      → Stepped leaves (pick (contains (h .mask) i) (spots (h .columns)) []) (openedOf leaves i s m)
   opened m h s b e =
-      bool-case (allows (h .mask) i)
+      bool-case (contains (h .mask) i)
       (λ t. rw (e, t) (stepped leaves 0 0 s (spots (h .columns)) (body-ahead leaves s (h .columns) b)))
       (λ t. rw (e, t) refl)
 
@@ -172,7 +165,7 @@ module _ (leaves starts masks : List ℕ) (i : ℕ) where
   finds-hits (h ∷ hits) hit (s ∷ ss) (m ∷ ms) es em row count =
       let ds : drop (suc hit) starts ≡ ss = rw add-one at (drop-head starts hit s ss es .2) in
       let dm : drop (suc hit) masks ≡ ms = rw add-one at (drop-head masks hit m ms em .2) in
-      finds-or (suc hit) (pick (allows (h .mask) i) (spots (h .columns)) []) hits (openedOf leaves i s m) (firstOf leaves i (suc hit) ss ms)
+      finds-or (suc hit) (pick (contains (h .mask) i) (spots (h .columns)) []) hits (openedOf leaves i s m) (firstOf leaves i (suc hit) ss ms)
       (opened m h s (row .0) (row .1))
       (rw (ds, dm) (row .2))
       (omega arith)
@@ -181,9 +174,9 @@ module _ (leaves starts masks : List ℕ) (i : ℕ) where
   finds-first : (hits : List Hit) → WholeRow leaves starts masks hits → Finds leaves starts masks i (candidates i hits) (firstOf leaves i 0 starts masks)
   finds-first hits row = finds-hits hits 0 starts masks refl refl (row .0) (omega (arith, row .1))
 
-  finds-next : (p : Place) (ahead : List Spot) → AheadOf leaves starts masks i p ahead → Finds leaves starts masks i ahead (nextOf leaves starts masks i p)
+  finds-next : (p : Place) (ahead : List Spot) → AheadOf leaves starts masks i p ahead → Finds leaves starts masks i ahead (nextFound leaves starts masks i p)
   finds-next p ahead a =
-      subst (λ (l : List Spot). Finds leaves starts masks i l (nextOf leaves starts masks i p)) (sym (a .all))
+      subst (λ (l : List Spot). Finds leaves starts masks i l (nextFound leaves starts masks i p)) (sym (a .all))
       (finds-or (p .hit) (a .here) (a .hits) (stepOf leaves (p .column) (p .position) (p .next)) (firstOf leaves i (p .hit) (drop (p .hit) starts) (drop (p .hit) masks))
       (stepped leaves (p .column) (p .position) (p .next) (a .here) (a .body))
       (a .later)
@@ -203,7 +196,7 @@ first-kept leaves starts masks i r e =
     }
 
 -- and so does one that is the next
-pub next-kept : (leaves starts masks : List ℕ) (i : ℕ) (p : Place) (r : Found) → r ≡ nextOf leaves starts masks i p → Next leaves starts masks i p r
+pub next-kept : (leaves starts masks : List ℕ) (i : ℕ) (p : Place) (r : Found) → r ≡ nextFound leaves starts masks i p → NextPlace leaves starts masks i p r
 next-kept leaves starts masks i p r e =
     let f = next-falls leaves starts masks i p in
     record {
@@ -243,5 +236,5 @@ module _ (leaves starts masks : List ℕ) (i : ℕ) where
   walk-falls r n p e h = subst (λ (f : Found). left leaves starts n < left leaves starts f) (sym e) h
 
   -- and the positions are small
-  pub walk-small : (r : Found) (p : Place) → r ≡ At p → Small r → p .position < positionLimit
-  walk-small r p e h = subst Small e h
+  pub walk-small : (r : Found) (p : Place) → r ≡ At p → SmallFound r → p .position < positionLimit
+  walk-small r p e h = subst SmallFound e h

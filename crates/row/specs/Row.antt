@@ -6,7 +6,7 @@ use mathlib.Core.Bool.{true}
 use mathlib.Core.List.{List, [], _∷_, _++_, List·Memᴰ}
 use lib.ListN.{length, drop}
 use Rattle.doclist.specs.Doclist.{Column, Columns, columnNumbers, encodeAll}
-use Rattle.lexer.specs.Token.{allows}
+use Rattle.common.specs.Bits.{contains}
 use Rattle.meaning.specs.Index.{positionsIn}
 
 -- a live entry: its columns, and the query words that its index word matches (bit i for word number i)
@@ -17,9 +17,9 @@ pub record Hit : Type 0 where
 -- the query's word number i stands at a column and a position of the row
 abbrev pub StandsIn : List Hit → ℕ → ℕ → ℕ → Type 0
 StandsIn hits i column position =
-    (h : Hit) × List·Memᴰ h hits × (allows (h .mask) i ≡ true) × List·Memᴰ position (positionsIn column (h .columns))
+    (h : Hit) × List·Memᴰ h hits × (contains (h .mask) i ≡ true) × List·Memᴰ position (positionsIn column (h .columns))
 
--- the bytes of an entry behind its docid number
+-- the bytes of an entry after its docid number
 abbrev pub bodyBytes : List Column → List ℕ
 bodyBytes cs = encodeAll (columnNumbers cs ++ (0 ∷ []))
 

@@ -1,5 +1,5 @@
 // One row as the engine sees it: the live entries at one docid, which lie in the lent leaves. A body is what an entry has
-// behind its docid; all numbers are varints:
+// after its docid; all numbers are varints:
 //
 //     for each column: [1, column]   position + 2, difference + 2, ..   0
 //
@@ -8,8 +8,8 @@ use varint::Varint;
 ghost use mathlib.Core.Path.{_≡_};
 ghost use Prim.Native.Nat.{_^_, _<_};
 ghost use lib.ListN.{drop};
-ghost use Rattle.lexer.specs.Token.{allows};
-ghost use Rattle.row.specs.Walk.{positionOf, stepOf, openedOf, firstOf, First, Next};
+ghost use Rattle.common.specs.Bits.{contains};
+ghost use Rattle.row.specs.Walk.{positionStep, stepOf, openedOf, firstOf, First, NextPlace};
 
 // The number that ends a body.
 const CLOSE: u64 = 0;
@@ -56,7 +56,7 @@ pub enum Found {
 
 // Whether a set of 16 bits has the member `i`.
 pub fn contains(set: u16, i: usize) -> bool
-    ensures { λ r. ⌜ r ≡ allows set i ⌝ }
+    ensures { λ r. ⌜ r ≡ contains set i ⌝ }
 {
     if SET_SIZE <= i {
         return false;
@@ -64,10 +64,10 @@ pub fn contains(set: u16, i: usize) -> bool
     (set >> i) % 2 == 1
 }
 
-// The position that a number stands for, behind the position `base` of its column.
+// The position that a number stands for, after the position `base` of its column.
 fn position(column: u64, base: u64, value: u64, next: usize) -> Step
     requires { ⌜ value < 2 ^ 63 ⌝ }
-    ensures { λ r. ⌜ r ≡ positionOf column base value next ⌝ }
+    ensures { λ r. ⌜ r ≡ positionStep column base value next ⌝ }
 {
     if value < SHIFT {
         return Step::Done;
@@ -86,7 +86,7 @@ fn position(column: u64, base: u64, value: u64, next: usize) -> Step
     }
 }
 
-// The position behind the position `base` of a column.
+// The position after the position `base` of a column.
 fn step_from(leaves: &[u8], column: u64, base: u64, at: usize) -> Step
     ensures { λ r. ⌜ r ≡ stepOf (now (leaves .entry)) column base at ⌝ }
 {
@@ -101,7 +101,7 @@ fn step_from(leaves: &[u8], column: u64, base: u64, at: usize) -> Step
     }
     let Varint::Value {
         value: named,
-        next: behind,
+        next: first_at,
     } = varint::read(leaves, next)
     else {
         return Step::Done;
@@ -109,7 +109,7 @@ fn step_from(leaves: &[u8], column: u64, base: u64, at: usize) -> Step
     let Varint::Value {
         value: first,
         next: after,
-    } = varint::read(leaves, behind)
+    } = varint::read(leaves, first_at)
     else {
         return Step::Done;
     };
@@ -159,9 +159,9 @@ pub fn first(leaves: &[u8], starts: &[u16], masks: &[u16], i: usize) -> Found
     first_from(leaves, starts, masks, i, 0)
 }
 
-// The next position, behind one that was found.
+// The next position, after one that was found.
 pub fn advance(leaves: &[u8], starts: &[u16], masks: &[u16], i: usize, place: Place) -> Found
-    ensures { λ r. ⌜ Next (now (leaves .entry)) (now (starts .entry)) (now (masks .entry)) i place r ⌝ }
+    ensures { λ r. ⌜ NextPlace (now (leaves .entry)) (now (starts .entry)) (now (masks .entry)) i place r ⌝ }
 {
     let Step::At {
         column,

@@ -11,22 +11,19 @@ use lib.Seq.{take-suc}
 use Rattle.common.proofs.Cases.{false-not-true, split}
 use Rattle.common.specs.Bytes.{part}
 use Rattle.offsets.specs.Cut.{cut, startOf}
-use Rattle.offsets.proofs.Cuts.{length-cut, part-at}
+use Rattle.offsets.proofs.Cuts.{length-cut, cut-at}
 use Rattle.offsets.proofs.CutSteps.{no-part}
 use Rattle.leaf.specs.Leaf.{Term, LeafIs, IsLeaf, AreLeaves}
-use Rattle.leaf.specs.Answers.{CheckShape, CheckIs}
+use Rattle.leaf.specs.Answers.{CheckShape}
 use Rattle.leaf.specs.declared.LeafCheck.{LeafCheck}
 use Rattle.leaf.specs.declared.LeafCheck.the-variants.{Accepted, Shape, Broken}
 use Rattle.leaf.proofs.Checks as check
+use Rattle.leaf.proofs.Checks.{CheckPromise}
 use Rattle.search.specs.Checking.{SoundLeaves}
 
 -- ---- one leaf
 
--- what `leaf::check` promises
-abbrev pub Checked : ℕ → List ℕ → LeafCheck → Type 0
-Checked count s r = (a : LeafCheck) → (r ≡ a) ↔ CheckIs count s a
-
-module _ (count : ℕ) (s : List ℕ) (r : LeafCheck) (k : Checked count s r) (shape : CheckShape count s) where
+module _ (count : ℕ) (s : List ℕ) (r : LeafCheck) (k : CheckPromise count s r) (shape : CheckShape count s) where
   pub accepted-leaf : r ≡ Accepted → (true ≡ true) ↔ IsLeaf count s
   accepted-leaf e = (λ t. check.accepted-exactly count s .0 (k Accepted .0 e) .1, λ t. refl)
 
@@ -44,7 +41,7 @@ short-part s es i p e =
     split i (length es)
     (λ h.
     let l : length (part s (startOf es i) (getD es i 0)) ≤ length s = simp (length-take, length-drop) (omega arith) in
-    omega (arith, ap length (e ∙ part-at s es i h)))
+    omega (arith, ap length (e ∙ cut-at s es i h)))
     (λ h. omega (arith, ap length (e ∙ sym (no-part s es i h))))
 
 -- ---- all leaves

@@ -5,29 +5,31 @@ use native.Mathlib.Nat.{not-suc-le-zero, le-of-suc-le-suc}
 use native.Mathlib.Omega.{arith}
 use mathlib.Core.Path.{_≡_, refl, sym, ap, _∙_, subst}
 use mathlib.Core.Logic.{_↔_, _⊎_, inl, inr, ⊎-elim}
-use mathlib.Core.List.{List, [], _∷_, _++_, map, List·Memᴰ, List·Memᴰ·head, List·Memᴰ·not-nil, Memᴰ·map, Memᴰ·of-map}
+use mathlib.Core.List.{List, [], _∷_, _++_, map, List·Memᴰ, List·Memᴰ·not-nil, Memᴰ·map, Memᴰ·of-map}
 use lib.IntN.{ℤ, pos}
 use lib.ListN.{length, getD, take, length-map}
 use lib.Seq.{take-at}
 use Rattle.common.specs.Refusals.{Numbers, numbers, Refusal, FirstDue, roomRefusal}
-use Rattle.common.proofs.Refusals.{passes, gives, number-differs, first-due-once}
+use Rattle.common.proofs.Refusals.{passes, gives, number-differs, first-due-once, room-gives}
+use Rattle.common.proofs.Lists.{empty}
+use Rattle.common.proofs.Members.{no-member}
 use Rattle.offsets.proofs.Cuts.{length-cut}
 use Rattle.doclist.specs.Doclist.{Rising, docidLimit}
+use Rattle.doclist.proofs.Content.{rising-low}
 use Rattle.leaf.specs.Leaf.{Term, IsLeaf, NoLeaf, AreLeaves}
 use Rattle.leaf.specs.Answers.{leafRefusals}
-use Rattle.lexer.specs.Token.{QueryWord}
 use Rattle.query.specs.Tree.{Tree, NOT, leaf, joined}
 use Rattle.query.proofs.Bounds as bounds
 use Rattle.meaning.specs.Satisfies.{Satisfies, StandsAt}
 use Rattle.meaning.specs.Index.{live}
-use Rattle.meaning.specs.Listing.{Answers, shown, roomWith, zeros}
-use Rattle.meaning.proofs.Lists.{lists-unique, rising-low}
-use Rattle.meaning.proofs.Some.{Worded, WordedTree, holds-some}
+use Rattle.meaning.specs.Listing.{Answers, signedDocid, roomWith, zeros}
+use Rattle.meaning.proofs.Lists.{lists-unique}
+use Rattle.meaning.proofs.Some.{WordedTree, holds-some, first-worded}
 use Rattle.search.specs.Search.{numbersOf, Input, columnCount, leafBytes, ShapeRight, IsQuery, Searchable, refusals, roomFor, Searched}
 use Rattle.search.specs.Checking.{SoundLeaves}
 use Rattle.search.specs.declared.Answer.{Answer}
 use Rattle.search.specs.declared.Answer.the-variants as answer
-use Rattle.search.proofs.Order.{numbers-once, refusals-exclusive, first-broken, broken-first, searchable, last-due, behind-shape, behind-query, room-gives, other-need}
+use Rattle.search.proofs.Order.{numbers-once, refusals-exclusive, first-broken, broken-first, searchable, last-due, behind-shape, behind-query, other-need}
 
 -- ---- the leaves that break a rule
 
@@ -73,7 +75,7 @@ module _ (x : Input) (r : Answer) where
 
 -- ---- lists of docids
 
--- a docid that stands behind another is greater
+-- a docid that stands after another is greater
 rising-from : (low limit : ℕ) (ds : List ℕ) → Rising low limit ds → (i : ℕ) → i < length ds → low ≤ getD ds i 0
 rising-from low limit [] h i l = absurd (not-suc-le-zero l)
 rising-from low limit (d ∷ ds) h zero l = h .0
@@ -85,25 +87,13 @@ rising-order low limit (d ∷ ds) h i zero m l = absurd (not-suc-le-zero m)
 rising-order low limit (d ∷ ds) h zero (suc j) m l = rising-from (suc d) limit ds (h .2) j (le-of-suc-le-suc l)
 rising-order low limit (d ∷ ds) h (suc i) (suc j) m l = rising-order (suc d) limit ds (h .2) i j (le-of-suc-le-suc m) (le-of-suc-le-suc l)
 
-no-member : (ds : List ℕ) → ((d : ℕ) → List·Memᴰ d ds → ⊥) → ds ≡ []
-no-member [] h = refl
-no-member (d ∷ ds) h = absurd (h d (List·Memᴰ·head refl))
-
-shown-member : (d : ℕ) (ds : List ℕ) → List·Memᴰ (shown d) (map shown ds) ↔ List·Memᴰ d ds
+shown-member : (d : ℕ) (ds : List ℕ) → List·Memᴰ (signedDocid d) (map signedDocid ds) ↔ List·Memᴰ d ds
 shown-member d ds = (
-  λ m. let o = Memᴰ·of-map shown ds m in let e : pos (o .0) ≡ pos d = o .2 in let f : o .0 ≡ d = cc in subst (λ k. List·Memᴰ k ds) f (o .1),
-  λ m. Memᴰ·map shown m,
+  λ m. let o = Memᴰ·of-map signedDocid ds m in let e : pos (o .0) ≡ pos d = o .2 in let f : o .0 ≡ d = cc in subst (λ k. List·Memᴰ k ds) f (o .1),
+  λ m. Memᴰ·map signedDocid m,
 )
 
 -- ---- an index without leaves
-
-no-parts : (bs : List (List ℕ)) → length bs ≡ 0 → bs ≡ []
-no-parts [] e = refl
-no-parts (b ∷ bs) e = absurd (omega arith)
-
-first-worded : (ws : List QueryWord) → 1 ≤ length ws → Worded ws
-first-worded [] h = absurd (omega arith)
-first-worded (w ∷ ws) h = tt
 
 tree-worded : (t : Tree) → bounds.TreeWorded t → WordedTree t
 tree-worded (leaf c) h = first-worded (c .first .words) (h .0)
@@ -124,17 +114,17 @@ refused-zeros n docids (answer.Leaf i) z = refl
 refused-zeros n docids (answer.Room k) z = refl
 
 -- the checks were passed: the number is 0 or 4
-abbrev pub Passed : Answer → Type 0
-Passed r = (numbersOf r .number ≡ 0) ⊎ (numbersOf r .number ≡ 4)
+abbrev pub Answered : Answer → Type 0
+Answered r = (numbersOf r .number ≡ 0) ⊎ (numbersOf r .number ≡ 4)
 
-passed-or-not : (r : Answer) → Passed r ⊎ (((numbersOf r .number ≡ 0) → ⊥) × ((numbersOf r .number ≡ 4) → ⊥))
+passed-or-not : (r : Answer) → Answered r ⊎ (((numbersOf r .number ≡ 0) → ⊥) × ((numbersOf r .number ≡ 4) → ⊥))
 passed-or-not (answer.Found n) = inl (inl refl)
 passed-or-not answer.Shape = inr (λ z. omega arith, λ z. omega arith)
 passed-or-not answer.Query = inr (λ z. omega arith, λ z. omega arith)
 passed-or-not (answer.Leaf i) = inr (λ z. omega arith, λ z. omega arith)
 passed-or-not (answer.Room n) = inl (inr refl)
 
-passed-searchable : (x : Input) (n : ℕ) (r : Answer) (room : List ℤ) (s : Searched x n r room) → Passed r
+passed-searchable : (x : Input) (n : ℕ) (r : Answer) (room : List ℤ) (s : Searched x n r room) → Answered r
     → Searchable x × FirstDue (roomRefusal n (length (s .docids)) ∷ []) (numbers 0 (length (s .docids))) (numbersOf r)
 passed-searchable x n r room s p =
     searchable x n (length (s .docids)) (numbersOf r) (not-other 1 (λ z. omega arith) (λ z. omega arith)) (not-other 2 (λ z. omega arith) (λ z. omega arith)) (not-other 3 (λ z. omega arith) (λ z. omega arith)) (s .answered)
@@ -202,18 +192,18 @@ module _ (x : Input) (n : ℕ) (r : Answer) (room : List ℤ) (s : Searched x n 
         (e, s .left ∙ ap (roomFor n (s .docids)) e)
 
     -- the docids that stand in the room are those that satisfy
-    pub room-satisfies : length (s .docids) ≤ n → (d : ℕ) → d < docidLimit → List·Memᴰ (shown d) (take (length (s .docids)) room) ↔ Satisfies (live index) d tree
+    pub room-satisfies : length (s .docids) ≤ n → (d : ℕ) → d < docidLimit → List·Memᴰ (signedDocid d) (take (length (s .docids)) room) ↔ Satisfies (live index) d tree
     room-satisfies h d l =
-        let e : take (length (s .docids)) room ≡ map shown (s .docids) =
-        ap (take (length (s .docids))) (count-is-length h .1) ∙ take-at (map shown (s .docids)) _ (length (s .docids)) (length-map (s .docids) shown) in
+        let e : take (length (s .docids)) room ≡ map signedDocid (s .docids) =
+        ap (take (length (s .docids))) (count-is-length h .1) ∙ take-at (map signedDocid (s .docids)) _ (length (s .docids)) (length-map (s .docids) signedDocid) in
         let m = shown-member d (s .docids) in
         let t = listed-satisfies d l in
-        (λ k. t .0 (m .0 (subst (List·Memᴰ (shown d)) e k)), λ k. subst (List·Memᴰ (shown d)) (sym e) (m .1 (t .1 k)))
+        (λ k. t .0 (m .0 (subst (List·Memᴰ (signedDocid d)) e k)), λ k. subst (List·Memᴰ (signedDocid d)) (sym e) (m .1 (t .1 k)))
 
   -- with no leaves the list is empty
   pub no-leaves : (tree : Tree) → ShapeRight x → IsQuery x tree → length (x .leaf-ends) ≡ 0 → (s .docids ≡ []) × (r ≡ answer.Found 0) × (room ≡ zeros n)
   no-leaves tree shape query z =
-      let b : leafBytes x ≡ [] = no-parts (leafBytes x) (length-cut (x .leaves) (x .leaf-ends) ∙ z) in
+      let b : leafBytes x ≡ [] = empty (leafBytes x) (length-cut (x .leaves) (x .leaf-ends) ∙ z) in
       let l : AreLeaves (columnCount x) (leafBytes x) [] = subst (λ bs. AreLeaves (columnCount x) bs []) (sym b) tt in
       let list = s .listed tree [] shape query l in
       let e : s .docids ≡ [] =
@@ -252,7 +242,7 @@ module _ (x : Input) (n : ℕ) (r : Answer) (room : List ℤ) (s : Searched x n 
   -- ---- what each number says
 
   -- answer 0 or 4 ⇔ the shape is right, the query is a tree, and the leaves have terms
-  pub searchable-exactly : Passed r ↔ Searchable x
+  pub searchable-exactly : Answered r ↔ Searchable x
   searchable-exactly = (
     λ p. passed-searchable x n r room s p .0,
     λ a.

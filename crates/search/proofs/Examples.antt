@@ -8,13 +8,15 @@ use mathlib.Core.List.{List, [], _∷_, _++_, append-nil, List·Memᴰ, List·Me
 use lib.ListN.{length, getD}
 use lib.Dec.{eqb}
 use borrow.Author.Tests.{eq-eqb, ne-eqb}
-use Rattle.common.specs.Marked.{Example, Holds}
+use Rattle.common.specs.Marked.{Example, AllHold}
 use Rattle.common.specs.Bytes.{same, span}
 use Rattle.common.specs.Pick.{pick}
 use Rattle.common.proofs.Cases.{false-not-true, same-or}
+use Rattle.common.proofs.Marked.{holds-both}
+use Rattle.common.specs.Bounds.{maxWord}
 use Rattle.varint.proofs.Examples as varint
 use Rattle.varint.specs.Marked as varint-spec
-use Rattle.tokenizer.specs.Word.{isWord, isDigit, isSeparator, fold, wordStart, wordEnd, placesIn, maxWord}
+use Rattle.tokenizer.specs.Word.{isWord, isDigit, isSeparator, fold, wordStart, wordEnd, placesIn}
 use Rattle.tokenizer.proofs.Examples as tokenizer
 use Rattle.tokenizer.specs.Marked as tokenizer-spec
 use Rattle.doclist.proofs.Examples as doclist
@@ -70,7 +72,7 @@ module _ (w : List ℕ) (q : ℕ) (once : Once w q) where
 
 -- ---- how the queries are read
 
--- a word, and what stands behind it
+-- a word, and what stands after it
 word-token : (names : List (List ℕ)) (w s : List ℕ) (ts : List Token) → Stretch isRunByte w → Stretch isWord w → isOperator (w ++ []) ≡ false → stops isRunByte s ≡ true
     → Tokens names s ts → Tokens names (w ++ s) (oneWord w false anyColumn ∷ ts)
 word-token names w s ts r h n b t =
@@ -117,7 +119,7 @@ chain-reads names s v w n l e f t =
 
 -- ---- P15
 
-pub examples : Holds marked
+pub examples : AllHold marked
 unfolding fold
 examples = (
   (
@@ -135,10 +137,6 @@ examples = (
 
 -- ---- P1 to P15
 
-holds-both : (es fs : List Example) → Holds es → Holds fs → Holds (es ++ fs)
-holds-both [] fs h k = k
-holds-both (e ∷ es) fs h k = (h .0, holds-both es fs (h .1) k)
-
 abbrev from-query : List Example
 from-query = query-spec.marked ++ marked
 
@@ -151,7 +149,7 @@ from-document = document-spec.marked ++ from-words
 abbrev from-lists : List Example
 from-lists = doclist-spec.marked ++ from-document
 
-pub marked-examples : Holds allMarked
+pub marked-examples : AllHold allMarked
 marked-examples =
     holds-both varint-spec.marked from-lists varint.examples
     (holds-both doclist-spec.marked from-document doclist.examples

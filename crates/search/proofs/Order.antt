@@ -3,12 +3,12 @@
 use Prim.Native.Nat.{ℕ, zero, suc, _+_, _<_}
 use native.Mathlib.Nat.{not-suc-le-zero, le-of-suc-le-suc}
 use native.Mathlib.Omega.{arith}
-use mathlib.Core.Path.{_≡_, refl, sym, ap, _∙_}
+use mathlib.Core.Path.{_≡_, refl, ap}
 use mathlib.Core.Logic.{inl, inr, ⊎-elim}
 use mathlib.Core.List.{List, [], _∷_, _++_}
 use lib.ListN.{length, getD, take}
 use Rattle.common.specs.Refusals.{Numbers, numbers, Refusal, FirstDue, Exclusive, shapeRefusal, roomRefusal}
-use Rattle.common.proofs.Refusals.{passes, exclusive-append, room-exclusive}
+use Rattle.common.proofs.Refusals.{known-by-numbers, passes, exclusive-append, room-exclusive, Lacks, not-given, swap-tail}
 use Rattle.leaf.specs.Leaf.{Term, IsLeaf, NoLeaf, AreLeaves}
 use Rattle.leaf.specs.Answers.{leafRefusals}
 use Rattle.leaf.proofs.Checks.{leaves-exclusive}
@@ -36,7 +36,7 @@ answer-of (answer.Room n) = refl
 
 -- answers with the same numbers are the same
 pub numbers-once : (r q : Answer) → numbersOf r ≡ numbersOf q → r ≡ q
-numbers-once r q e = sym (answer-of r) ∙ ap (λ (m : Numbers). answerOf (m .number) (m .second)) e ∙ answer-of q
+numbers-once = known-by-numbers numbersOf answerOf answer-of
 
 -- ---- the refusals
 
@@ -60,7 +60,7 @@ module _ (count : ℕ) where
   leaf-at (b ∷ bs) (t ∷ ts) (suc i) h l = leaf-at bs ts i (h .1) (le-of-suc-le-suc l)
 
   module _ (fs : List Refusal) (accepted : Numbers) where
-    -- where all leaves keep every rule, the refusals behind decide
+    -- where all leaves keep every rule, the refusals after decide
     pub none-broken : (k : ℕ) (bs : List (List ℕ)) (ts : List (List Term)) (m : Numbers) → AreLeaves count bs ts → FirstDue fs accepted m → FirstDue (leafRefusals count k bs ++ fs) accepted m
     none-broken k [] [] r h d = d
     none-broken k [] (t ∷ ts) r h d = absurd h
@@ -126,24 +126,12 @@ last-due x n need m shape tree query index leaves d =
 
 -- ---- numbers that a list can't give
 
-abbrev Lacks : ℕ → List Refusal → Type 0
-Lacks k [] = Unit {0}
-Lacks k (f ∷ fs) = (f .given .number ≡ k → ⊥) × Lacks k fs
-
 lacks-leaves : (k : ℕ) (fs : List Refusal) → (3 ≡ k → ⊥) → Lacks k fs → (count i : ℕ) (bs : List (List ℕ)) → Lacks k (leafRefusals count i bs ++ fs)
 lacks-leaves k fs n h count i [] = h
 lacks-leaves k fs n h count i (b ∷ bs) = (n, lacks-leaves k fs n h count (suc i) bs)
 
-not-given : (k : ℕ) (fs : List Refusal) (accepted m : Numbers) → Lacks k fs → (accepted .number ≡ k → ⊥) → FirstDue fs accepted m → m .number ≡ k → ⊥
-not-given k [] accepted m h n d e = n (sym (ap (λ (q : Numbers). q .number) d) ∙ e)
-not-given k (f ∷ fs) accepted m h n d e =
-    ⊎-elim
-    (λ g. h .0 (sym (ap (λ (q : Numbers). q .number) (g .1)) ∙ e))
-    (λ g. not-given k fs accepted m (h .1) n (g .1) e)
-    d
-
 module _ (x : Input) (n need : ℕ) (m : Numbers) where
-  -- behind the shape no number 1 is given, behind the query no 2
+  -- after the shape no number 1 is given, after the query no 2
   pub behind-shape : FirstDue (queryRefusal x ∷ (leafRefusals (columnCount x) 0 (leafBytes x) ++ roomRefusal n need ∷ [])) (numbers 0 need) m → m .number ≡ 1 → ⊥
   behind-shape d =
       not-given 1 (queryRefusal x ∷ (leafRefusals (columnCount x) 0 (leafBytes x) ++ roomRefusal n need ∷ [])) (numbers 0 need) m
@@ -154,15 +142,7 @@ module _ (x : Input) (n need : ℕ) (m : Numbers) where
       not-given 2 (leafRefusals (columnCount x) 0 (leafBytes x) ++ roomRefusal n need ∷ []) (numbers 0 need) m
       (lacks-leaves 2 (roomRefusal n need ∷ []) (λ z. omega arith) (λ z. omega arith, tt) (columnCount x) 0 (leafBytes x)) (λ z. omega arith) d
 
--- the room gives only 4, or 0
-pub room-gives : (n need k : ℕ) (m : Numbers) → (4 ≡ k → ⊥) → (0 ≡ k → ⊥) → FirstDue (roomRefusal n need ∷ []) (numbers 0 need) m → m .number ≡ k → ⊥
-room-gives n need k m a b d = not-given k (roomRefusal n need ∷ []) (numbers 0 need) m (a, tt) b d
-
 -- ---- refusals that do not depend on the list
-
-swap-tail : (hs fs gs : List Refusal) (a b m : Numbers) → (FirstDue fs a m → ⊥) → FirstDue (hs ++ fs) a m → FirstDue (hs ++ gs) b m
-swap-tail [] fs gs a b m n d = absurd (n d)
-swap-tail (h ∷ hs) fs gs a b m n d = ⊎-elim inl (λ g. inr (g .0, swap-tail hs fs gs a b m n (g .1))) d
 
 -- one of 1, 2 and 3 that is due is due whatever the need is
 pub other-need : (x : Input) (n need other : ℕ) (m : Numbers) → (m .number ≡ 0 → ⊥) → (m .number ≡ 4 → ⊥) → FirstDue (refusals x n need) (numbers 0 need) m

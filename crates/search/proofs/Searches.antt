@@ -39,12 +39,12 @@ tree-filled (leaf c) h = (omega (arith, h .0), links-filled (c .links) (h .1))
 tree-filled (joined o a b) h = (tree-filled a (h .0), tree-filled b (h .1))
 
 -- the room was cleared for the answer `a`
-abbrev pub Refused : ℕ → Answer → Answer → List ℤ → Type 0
-Refused n a r room = (r ≡ a) × (room ≡ zeros n)
+abbrev pub RefusedWith : ℕ → Answer → Answer → List ℤ → Type 0
+RefusedWith n a r room = (r ≡ a) × (room ≡ zeros n)
 
 -- a search in a room of `n` numbers answered `r` and left `room`; the test of its shape gave `good`
 module _ (x : Input) (n : ℕ) (r : Answer) (room : List ℤ) (good : Bool) (test : (good ≡ true) ↔ ShapeRight x) where
-  pub shape-refused : good ≡ false → Refused n answer.Shape r room → Searched x n r room
+  pub shape-refused : good ≡ false → RefusedWith n answer.Shape r room → Searched x n r room
   shape-refused e a =
       let h : ShapeRight x → ⊥ = λ s. false-not-true (sym e ∙ test .1 s) in
       record {
@@ -59,7 +59,7 @@ module _ (x : Input) (n : ℕ) (r : Answer) (room : List ℤ) (good : Bool) (tes
     shape : ShapeRight x
     shape = test .0 right
 
-    pub query-refused : reading .ok ≡ false → Refused n answer.Query r room → Searched x n r room
+    pub query-refused : reading .ok ≡ false → RefusedWith n answer.Query r room → Searched x n r room
     query-refused e a =
         let h : (tree : Tree) → IsQuery x tree → ⊥ = λ tree q. false-not-true (sym e ∙ compiles .accepted .1 (tree, q)) in
         record {
@@ -75,7 +75,7 @@ module _ (x : Input) (n : ℕ) (r : Answer) (room : List ℤ) (good : Bool) (tes
       behind-query : (need : ℕ) → FirstDue (leafRefusals (columnCount x) 0 (leafBytes x) ++ roomRefusal n need ∷ []) (numbers 0 need) (numbersOf r) → FirstDue (refusals x n need) (numbers 0 need) (numbersOf r)
       behind-query need d = inr (shape, inr (compiles .accepted .0 ok, d))
 
-      pub leaf-refused : i < length (x .leaf-ends) → Refused n (answer.Leaf i) r room → Searched x n r room
+      pub leaf-refused : i < length (x .leaf-ends) → RefusedWith n (answer.Leaf i) r room → Searched x n r room
       leaf-refused h a =
           let l = length-cut (x .leaves) (x .leaf-ends) in
           let b : i < length (leafBytes x) = omega arith in
@@ -110,7 +110,7 @@ module _ (x : Input) (n : ℕ) (r : Answer) (room : List ℤ) (good : Bool) (tes
         kept : length before ≡ n
         kept = ap length (run .left) ∙ length-fitted n (run .docids)
 
-        pub room-refused : length before < found → Refused (length before) (answer.Room found) r room → Searched x n r room
+        pub room-refused : length before < found → RefusedWith (length before) (answer.Room found) r room → Searched x n r room
         room-refused h a =
             let c = run .counted in
             let k = kept in

@@ -8,10 +8,11 @@ use lib.ListN.{length}
 use lib.Dec.{leb}
 use borrow.Author.Tests.{leb-true, le-leb}
 use Rattle.common.proofs.Cases.{false-not-true}
+use Rattle.common.specs.Bounds.{maxColumns, maxLeaves, maxIndexBytes}
 use Rattle.offsets.specs.Cut.{Cuts}
-use Rattle.offsets.specs.Names.{Names, maxColumns}
+use Rattle.offsets.specs.Names.{Names}
 use Rattle.offsets.proofs.Cuts.{length-cut}
-use Rattle.search.specs.Search.{Input, columnNames, maxLeaves, maxBytes, ShapeRight}
+use Rattle.search.specs.Search.{Input, columnNames, ShapeRight}
 
 module _ (x : Input) where
   pub names-wrong : (r : Bool) → (r ≡ true) ↔ (Cuts (x .names) (x .name-ends) × Names (columnNames x)) → r ≡ false → (false ≡ true) ↔ ShapeRight x
@@ -24,14 +25,14 @@ module _ (x : Input) where
   many-leaves h = (false-not-true, λ s. absurd (omega (arith, s .few-leaves)))
 
   pub shape-told : Cuts (x .names) (x .name-ends) × Names (columnNames x) → Cuts (x .leaves) (x .leaf-ends) → length (x .leaf-ends) ≤ maxLeaves
-      → (leb (length (x .leaves)) maxBytes ≡ true) ↔ ShapeRight x
+      → (leb (length (x .leaves)) maxIndexBytes ≡ true) ↔ ShapeRight x
   shape-told n c h = (
-    λ e. record { name-cuts = n .0; good-names = n .1; leaf-cuts = c; few-leaves = h; few-bytes = leb-true (length (x .leaves)) maxBytes e },
-    λ s. le-leb (length (x .leaves)) maxBytes (s .few-bytes),
+    λ e. record { name-cuts = n .0; good-names = n .1; leaf-cuts = c; few-leaves = h; few-bytes = leb-true (length (x .leaves)) maxIndexBytes e },
+    λ s. le-leb (length (x .leaves)) maxIndexBytes (s .few-bytes),
   )
 
   -- what a right shape says of the numbers of columns and bytes
-  pub shape-bounds : ShapeRight x → (1 ≤ length (x .name-ends)) × (length (x .name-ends) ≤ maxColumns) × (length (x .leaves) ≤ maxBytes)
+  pub shape-bounds : ShapeRight x → (1 ≤ length (x .name-ends)) × (length (x .name-ends) ≤ maxColumns) × (length (x .leaves) ≤ maxIndexBytes)
   shape-bounds s =
       let l = length-cut (x .names) (x .name-ends) in
       (omega (arith, s .good-names .some), omega (arith, s .good-names .few), s .few-bytes)

@@ -7,6 +7,7 @@ use mathlib.Core.List.{List, [], _∷_, _++_}
 use lib.IntN.{ℤ}
 use lib.ListN.{length}
 use Rattle.common.specs.Refusals.{Numbers, numbers, Refusal, FirstDue, shapeRefusal, roomRefusal}
+use Rattle.common.specs.Bounds.{maxLeaves, maxIndexBytes}
 use Rattle.offsets.specs.Cut.{Cuts, cut}
 use Rattle.offsets.specs.Names.{Names}
 use Rattle.leaf.specs.Leaf.{Term, AreLeaves}
@@ -45,19 +46,13 @@ columnCount x = length (x .name-ends)
 abbrev pub leafBytes : Input → List (List ℕ)
 leafBytes x = cut (x .leaves) (x .leaf-ends)
 
-abbrev pub maxLeaves : ℕ
-maxLeaves = 8
-
-abbrev pub maxBytes : ℕ
-maxBytes = 65536
-
 -- "A search's shape is right when number 1 isn't due to it."
 pub record ShapeRight (x : Input) : Type 0 where
   pub name-cuts : Cuts (x .names) (x .name-ends)
   pub good-names : Names (columnNames x)
   pub leaf-cuts : Cuts (x .leaves) (x .leaf-ends)
   pub few-leaves : length (x .leaf-ends) ≤ maxLeaves
-  pub few-bytes : length (x .leaves) ≤ maxBytes
+  pub few-bytes : length (x .leaves) ≤ maxIndexBytes
 
 -- the query is in the language, and is this tree
 abbrev pub IsQuery : Input → Tree → Type 0

@@ -6,15 +6,12 @@ ghost use mathlib.Core.Bool.{true};
 ghost use mathlib.Core.List.{List};
 ghost use Prim.Native.Nat.{ℕ, _≤_};
 ghost use lib.ListN.{length};
+ghost use Rattle.common.specs.Bounds.{maxColumns, maxIndexBytes};
 ghost use Rattle.offsets.specs.Cut.{cut};
-ghost use Rattle.offsets.specs.Names.{maxColumns};
 ghost use Rattle.leaf.specs.Leaf.{IsLeaf};
 ghost use Rattle.meaning.specs.Listing.{zeros};
-ghost use Rattle.search.specs.Search.{maxBytes, ShapeRight, Searched};
+ghost use Rattle.search.specs.Search.{ShapeRight, Searched};
 ghost use Rattle.search.specs.Checking.{SoundLeaves};
-
-// An index has at most 8 leaves.
-pub const MAX_LEAVES: usize = 8;
 
 // What a search answers.
 pub enum Answer {
@@ -40,15 +37,15 @@ fn has_shape(names: &[u8], name_ends: &[u32], leaves: &[u8], leaf_ends: &[u32]) 
     if !offsets::is_cut(leaves, leaf_ends) {
         return false;
     }
-    if MAX_LEAVES < leaf_ends.len() {
+    if common::MAX_LEAVES < leaf_ends.len() {
         return false;
     }
-    leaves.len() <= leaf::MAX_LEAVES
+    leaves.len() <= common::MAX_INDEX_BYTES
 }
 
 // Whether a leaf keeps every rule.
 fn is_leaf(leaf: &[u8], columns: u32) -> bool
-    requires { ⌜ (1 ≤ columns) × (columns ≤ maxColumns) × (length (now leaf) ≤ maxBytes) ⌝ }
+    requires { ⌜ (1 ≤ columns) × (columns ≤ maxColumns) × (length (now leaf) ≤ maxIndexBytes) ⌝ }
     ensures { λ r. ⌜ ((r ≡ true) ↔ IsLeaf columns (now (leaf .entry))) ⌝ }
 {
     match leaf::check(leaf, columns) {
@@ -60,7 +57,7 @@ fn is_leaf(leaf: &[u8], columns: u32) -> bool
 
 // How many leaves keep every rule, from the newest on, up to the first that breaks one.
 fn sound_leaves(leaves: &[u8], ends: &[u32], columns: u32) -> usize
-    requires { ⌜ (1 ≤ columns) × (columns ≤ maxColumns) × (length (now leaves) ≤ maxBytes) ⌝ }
+    requires { ⌜ (1 ≤ columns) × (columns ≤ maxColumns) × (length (now leaves) ≤ maxIndexBytes) ⌝ }
     ensures { λ r. ⌜ SoundLeaves columns (cut (now (leaves .entry)) (now (ends .entry))) r ⌝ }
 {
     let mut i: usize = 0;
@@ -82,7 +79,7 @@ fn refused(room: &mut [i64], answer: Answer) -> Answer
 }
 
 // Lists all docids that satisfy the query, over leaves that come newest first: the docids go to the room, and zeros
-// behind them. A refusal leaves zeros.
+// after them. A refusal leaves zeros.
 pub fn search(
     names: &[u8],
     name_ends: &[u32],

@@ -11,9 +11,9 @@ use lib.Dec.{leb}
 use borrow.Author.Tests.{leb-true, le-leb, lt-leb}
 use Rattle.common.specs.Pick.{either}
 use Rattle.common.specs.Bytes.{part}
-use Rattle.common.proofs.Cases.{pick-case, both-left, both-right, both-true}
+use Rattle.common.proofs.Cases.{pick-case, both-left, both-right, both-true, either-left, either-right, both-false-right}
+use Rattle.common.proofs.Members.{member-map}
 use Rattle.tokenizer.specs.Word.{isUpper, isLower, isDigit, isWord, fold, Place, IsRun, places, wordAt, wordsOf}
-use Rattle.tokenizer.proofs.General.{either-left, either-right, both-false, member-map}
 use Rattle.tokenizer.proofs.Runs.{place-is-run}
 
 -- ---- of a byte
@@ -32,7 +32,7 @@ pub fold-lower : (b : ℕ) → isUpper (fold b) ≡ false
 unfolding fold
 fold-lower b =
     pick-case (λ x. isUpper x ≡ false) (isUpper b) (b + 32) b
-    (λ u. both-false (leb 65 (b + 32)) (leb (b + 32) 90) (lt-leb (b + 32) 90 (omega (arith, upper-low b u))))
+    (λ u. both-false-right (leb 65 (b + 32)) (leb (b + 32) 90) (lt-leb (b + 32) 90 (omega (arith, upper-low b u))))
     (λ u. u)
 
 pub fold-fold : (b : ℕ) → fold (fold b) ≡ fold b

@@ -10,10 +10,11 @@ use lib.Dec.{ltb, leb}
 use borrow.Author.Tests.{ltb-true, ltb-false, leb-true, leb-false, lt-ltb, le-ltb, le-leb, lt-leb, not-true, not-false}
 use Rattle.common.specs.Pick.{pick}
 use Rattle.common.proofs.Cases.{split, pick-case}
+use Rattle.common.proofs.Runs.{past, past-end, past-stop, past-more, past-inside, past-stops}
+use Rattle.common.specs.Bounds.{maxWord}
 use Rattle.tokenizer.specs.declared.Word.{Word}
 use Rattle.tokenizer.specs.declared.Word.the-variants.{Found, Overlong, Nothing}
-use Rattle.tokenizer.specs.Word.{isWord, isSeparator, Place, wordStart, wordEnd, placesIn, placesFrom, wordAt, wordsOf, maxWord, nextWord, Next}
-use Rattle.tokenizer.proofs.General.{past, past-end, past-stop, past-more, past-inside, past-stops}
+use Rattle.tokenizer.specs.Word.{isWord, isSeparator, Place, wordStart, wordEnd, placesIn, placesFrom, wordAt, wordsOf, nextWord, NextWordIs}
 
 -- ---- separators
 
@@ -134,29 +135,29 @@ module _ (s : List ℕ) (at : ℕ) where
       inside = pick short (Found (wordStart s at) (wordEnd s at)) (Overlong (wordStart s at) (wordEnd s at))
 
   -- the next word stands first among the words from `at` on
-  pub next-first : Next s at (nextWord s at)
-  next-first = next-case (Next s at) (λ h l. (places-some s at h, l)) (λ h l. (places-some s at h, l)) (λ h. places-none s at h)
+  pub next-first : NextWordIs s at (nextWord s at)
+  next-first = next-case (NextWordIs s at) (λ h l. (places-some s at h, l)) (λ h l. (places-some s at h, l)) (λ h. places-none s at h)
 
   -- what the contract asks of an answer
-  answers : {w : Word} → w ≡ nextWord s at → (w ≡ nextWord s at) × Next s at w
-  answers e = (e, subst (Next s at) (sym e) next-first)
+  answers : {w : Word} → w ≡ nextWord s at → (w ≡ nextWord s at) × NextWordIs s at w
+  answers e = (e, subst (NextWordIs s at) (sym e) next-first)
 
   module _ (a : ℕ) (begins : a ≡ wordStart s at) where
-    pub answer-nothing : length s ≤ a → (Nothing ≡ nextWord s at) × Next s at Nothing
+    pub answer-nothing : length s ≤ a → (Nothing ≡ nextWord s at) × NextWordIs s at Nothing
     answer-nothing h = answers (rw (le-ltb (wordStart s at) (length s) (omega arith)))
 
     module _ (e : ℕ) (ends : e ≡ past isWord s a) (h : a < length s) where
       end-at : e ≡ wordEnd s at
       end-at = ends ∙ ap (past isWord s) begins ∙ sym (end-past s at)
 
-      pub answer-found : e - a ≤ maxWord → (Found a e ≡ nextWord s at) × Next s at (Found a e)
+      pub answer-found : e - a ≤ maxWord → (Found a e ≡ nextWord s at) × NextWordIs s at (Found a e)
       answer-found l =
           let q = end-at in
           answers
           (ap₂ Found begins end-at
           ∙ rw (lt-ltb (wordStart s at) (length s) (omega arith), le-leb (wordEnd s at - wordStart s at) maxWord (omega arith)))
 
-      pub answer-overlong : maxWord < e - a → (Overlong a e ≡ nextWord s at) × Next s at (Overlong a e)
+      pub answer-overlong : maxWord < e - a → (Overlong a e ≡ nextWord s at) × NextWordIs s at (Overlong a e)
       answer-overlong l =
           let q = end-at in
           answers
@@ -182,22 +183,22 @@ module _ (s : List ℕ) (at a e : ℕ) where
   found-bounds q = subst (Bounds s at) q (bounds s at)
 
   pub found-first : nextWord s at ≡ Found a e → placesFrom s at ≡ record { start = a; end = e } ∷ placesFrom s e
-  found-first q = subst (Next s at) q (next-first s at) .0
+  found-first q = subst (NextWordIs s at) q (next-first s at) .0
 
   pub found-short : nextWord s at ≡ Found a e → e - a ≤ maxWord
-  found-short q = subst (Next s at) q (next-first s at) .1
+  found-short q = subst (NextWordIs s at) q (next-first s at) .1
 
   pub overlong-bounds : nextWord s at ≡ Overlong a e → (at ≤ a) × (a < e) × (e ≤ length s)
   overlong-bounds q = subst (Bounds s at) q (bounds s at)
 
   pub overlong-first : nextWord s at ≡ Overlong a e → placesFrom s at ≡ record { start = a; end = e } ∷ placesFrom s e
-  overlong-first q = subst (Next s at) q (next-first s at) .0
+  overlong-first q = subst (NextWordIs s at) q (next-first s at) .0
 
   pub overlong-long : nextWord s at ≡ Overlong a e → maxWord < e - a
-  overlong-long q = subst (Next s at) q (next-first s at) .1
+  overlong-long q = subst (NextWordIs s at) q (next-first s at) .1
 
 pub nothing-first : (s : List ℕ) (at : ℕ) → nextWord s at ≡ Nothing → placesFrom s at ≡ []
-nothing-first s at q = subst (Next s at) q (next-first s at)
+nothing-first s at q = subst (NextWordIs s at) q (next-first s at)
 
 -- ---- the words of a text, for a loop over its words: those so far, and those from a place on
 

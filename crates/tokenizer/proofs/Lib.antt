@@ -1,6 +1,6 @@
+-- The laws of this crate, in the order in which they build on each other.
 pub mod Table
 pub mod Rule
-pub mod General
 pub mod Laws
 pub mod Runs
 pub mod Folds

@@ -6,12 +6,13 @@ use native.Mathlib.Omega.{arith}
 use mathlib.Core.Path.{_≡_, refl, sym, ap, ap₂, subst, _∙_}
 use mathlib.Core.Logic.{_⊎_, inl, inr, ⊎-elim, _↔_}
 use mathlib.Core.Bool.{true, false}
-use mathlib.Core.List.{List, _∷_, List·Memᴰ, List·Memᴰ·head, List·Memᴰ·tail, List·Memᴰ·not-nil, List·Memᴰ·cases-cons}
+use mathlib.Core.List.{List, _∷_, List·Memᴰ, List·Memᴰ·head, List·Memᴰ·tail, List·Memᴰ·not-nil, List·Memᴰ·cases-cons, []}
 use lib.ListN.{length, getD}
 use Rattle.common.proofs.Cases.{split, false-not-true}
-use Rattle.tokenizer.specs.Word.{isWord, isSeparator, Place, IsRun, wordStart, wordEnd, placesIn, places}
-use Rattle.tokenizer.proofs.General.{past-passes, past-stops, member-at}
-use Rattle.tokenizer.proofs.Laws.{separator-not-word, start-past, start-after, start-word, end-past, end-after, end-inside, placed-some, placed-none}
+use Rattle.common.proofs.Runs.{past-passes, past-stops}
+use Rattle.common.proofs.Members.{member-at}
+use Rattle.tokenizer.specs.Word.{isWord, isSeparator, Place, IsRun, wordStart, wordEnd, placesIn, places, placesFrom}
+use Rattle.tokenizer.proofs.Laws.{separator-not-word, start-past, start-after, start-word, end-past, end-after, end-inside, placed-some, placed-none, start-end, places-none}
 
 -- a byte is not both
 clash {ℓ} : {X : Type ℓ} (b : ℕ) → isWord b ≡ true → isWord b ≡ false → X
@@ -71,7 +72,7 @@ placed-run (suc k) s at p clean m =
 
 -- ---- each run is a place
 
-abbrev at-place : ℕ → ℕ → Place
+abbrev pub at-place : ℕ → ℕ → Place
 at-place a e = record { start = a; end = e }
 
 module _ (s : List ℕ) (at : ℕ) (p : Place) (r : IsRun s p) (l : at ≤ p .start) where
@@ -99,7 +100,7 @@ module _ (s : List ℕ) (at : ℕ) (p : Place) (r : IsRun s p) (l : at ≤ p .st
       (r .last))
       (λ m. omega arith))
 
-  -- and one that begins later begins behind it
+  -- and one that begins later begins after it
   behind : wordStart s at < p .start → wordEnd s at ≤ p .start
   behind e =
       split (p .start) (wordEnd s at)
@@ -130,7 +131,7 @@ place-is-run s p = (
 
 -- ---- order
 
--- behind a place where no run goes on the words begin later
+-- after a place where no run goes on the words begin later
 after-end : (k : ℕ) (s : List ℕ) (at : ℕ) (p : Place) → Ended s at → List·Memᴰ p (placesIn k s at) → at < p .start
 after-end k s at p n m =
     let r = placed-run k s at p (inr n) m in
@@ -143,27 +144,30 @@ after-end k s at p n m =
     (λ z. clash (getD s at 0) (subst (λ (i : ℕ). isWord (getD s i 0) ≡ true) e w) z)
     n)
 
-unfoldable Rising : Place → List Place → Type 0
-Rising d ps = (i j : ℕ) → i < j → j < length ps → getD ps i d .end < getD ps j d .start
+unfoldable PlacesRising : Place → List Place → Type 0
+PlacesRising d ps = (i j : ℕ) → i < j → j < length ps → getD ps i d .end < getD ps j d .start
 
-one-more : (d p : Place) (ps : List Place) → ((q : Place) → List·Memᴰ q ps → p .end < q .start) → Rising d ps → Rising d (p ∷ ps)
-unfolding Rising
+one-more : (d p : Place) (ps : List Place) → ((q : Place) → List·Memᴰ q ps → p .end < q .start) → PlacesRising d ps → PlacesRising d (p ∷ ps)
+unfolding PlacesRising
 one-more d p ps later r i zero l m = absurd (not-suc-le-zero l)
 one-more d p ps later r zero (suc j) l m = later (getD ps j d) (member-at ps d j (le-of-suc-le-suc m))
 one-more d p ps later r (suc i) (suc j) l m = r i j (le-of-suc-le-suc l) (le-of-suc-le-suc m)
 
-rising : (k : ℕ) (s : List ℕ) (at : ℕ) (d : Place) → Rising d (placesIn k s at)
-unfolding placesIn Rising
+rising : (k : ℕ) (s : List ℕ) (at : ℕ) (d : Place) → PlacesRising d (placesIn k s at)
+unfolding placesIn PlacesRising
 rising zero s at d = λ i j l m. absurd (not-suc-le-zero m)
 rising (suc k) s at d =
     split (wordStart s at) (length s)
-    (λ h. subst (Rising d) (sym (placed-some k s at h))
+    (λ h. subst (PlacesRising d) (sym (placed-some k s at h))
     (one-more d record { start = wordStart s at; end = wordEnd s at } (placesIn k s (wordEnd s at))
     (λ q m. after-end k s (wordEnd s at) q (ended s at h) m)
     (rising k s (wordEnd s at) d)))
-    (λ h. subst (Rising d) (sym (placed-none (suc k) s at h)) (λ i j l m. absurd (not-suc-le-zero m)))
+    (λ h. subst (PlacesRising d) (sym (placed-none (suc k) s at h)) (λ i j l m. absurd (not-suc-le-zero m)))
 
 -- the words stand in rising order, and between two of them stands at least one separator
 pub places-rise : (s : List ℕ) (d : Place) (i j : ℕ) → i < j → j < length (places s) → getD (places s) i d .end < getD (places s) j d .start
-unfolding Rising
+unfolding PlacesRising
 places-rise s d i j l m = rising (length s - 0) s 0 d i j l m
+
+pub places-end : (s : List ℕ) (at : ℕ) → length s ≤ at → placesFrom s at ≡ []
+places-end s at h = places-none s at (omega (arith, start-end s at h))

@@ -10,6 +10,7 @@ use lib.ListN.{length, getD, drop}
 use lib.Dec.{ltb, leb}
 use Rattle.common.specs.Pick.{pick, either}
 use Rattle.common.specs.Bytes.{part, span, within}
+use Rattle.common.specs.Bounds.{maxWord}
 use Rattle.tokenizer.specs.declared.Word.{Word}
 use Rattle.tokenizer.specs.declared.Word.the-variants.{Found, Overlong, Nothing}
 
@@ -35,9 +36,9 @@ isSeparator b = not (isWord b)
 unfoldable pub fold : ℕ → ℕ
 fold b = pick (isUpper b) (b + 32) b
 
--- a byte's entry in the table: its folded form, and 256 more for a word byte
+-- a byte's entry in the table: its folded form, and 768 more for a digit, 256 more for another word byte
 unfoldable pub entryOf : ℕ → ℕ
-entryOf b = fold b + pick (isWord b) 256 0
+entryOf b = fold b + pick (isDigit b) 768 (pick (isWord b) 256 0)
 
 -- ---- the words of a text
 
@@ -46,7 +47,7 @@ pub record Place : Type 0 where
   pub start : ℕ
   pub end : ℕ
 
--- a longest run of word bytes: not empty, and no word byte stands before it or behind it
+-- a longest run of word bytes: not empty, and no word byte stands before it or after it
 pub record IsRun (s : List ℕ) (p : Place) : Type 0 where
   pub some : p .start < p .end
   pub inside : p .end ≤ length s
@@ -84,10 +85,6 @@ wordsOf s = map (wordAt s) (places s)
 
 -- ---- the next word
 
--- document 01's bound on a word
-abbrev pub maxWord : ℕ
-maxWord = 64
-
 abbrev pub nextWord : List ℕ → ℕ → Word
 nextWord s at =
     pick (ltb (wordStart s at) (length s))
@@ -95,7 +92,7 @@ nextWord s at =
     Nothing
 
 -- what an answer says of the words from the place `at` on
-abbrev pub Next : List ℕ → ℕ → Word → Type 0
-Next s at (Found a e) = (placesFrom s at ≡ record { start = a; end = e } ∷ placesFrom s e) × (e - a ≤ maxWord)
-Next s at (Overlong a e) = (placesFrom s at ≡ record { start = a; end = e } ∷ placesFrom s e) × (maxWord < e - a)
-Next s at Nothing = placesFrom s at ≡ []
+abbrev pub NextWordIs : List ℕ → ℕ → Word → Type 0
+NextWordIs s at (Found a e) = (placesFrom s at ≡ record { start = a; end = e } ∷ placesFrom s e) × (e - a ≤ maxWord)
+NextWordIs s at (Overlong a e) = (placesFrom s at ≡ record { start = a; end = e } ∷ placesFrom s e) × (maxWord < e - a)
+NextWordIs s at Nothing = placesFrom s at ≡ []

@@ -3,15 +3,15 @@ ghost use mathlib.Core.Path.{_≡_};
 ghost use Prim.Native.Nat.{_+_};
 ghost use lib.ListN.{drop};
 ghost use Rattle.common.specs.Bytes.{span};
-ghost use Rattle.tokenizer.specs.Word.{isWord, fold, entryOf, wordStart, nextWord, Next};
-
-// Document 01's bound on a word.
-pub const MAX_WORD: usize = 64;
+ghost use Rattle.tokenizer.specs.Word.{isDigit, isWord, fold, entryOf, wordStart, nextWord, NextWordIs};
 
 // What a word byte's entry has above its folded form.
 const WORD: u16 = 256;
 
-// Each byte's folded form, and WORD more if it is a word byte.
+// What a digit's entry has above it.
+const DIGIT: u16 = 768;
+
+// Each byte's folded form, and DIGIT more if it is a digit, WORD more if it is another word byte.
 const BYTES: [u16; 256] = [
     0,
     1,
@@ -61,16 +61,16 @@ const BYTES: [u16; 256] = [
     45,
     46,
     47,
-    304, // 0
-    305,
-    306,
-    307,
-    308,
-    309,
-    310,
-    311,
-    312,
-    313, // 9
+    816, // 0
+    817,
+    818,
+    819,
+    820,
+    821,
+    822,
+    823,
+    824,
+    825, // 9
     58,
     59,
     60,
@@ -295,6 +295,13 @@ pub fn is_word(b: u8) -> bool
     WORD <= entry(b)
 }
 
+// Whether a byte is one of the digits 0 to 9.
+pub fn is_digit(b: u8) -> bool
+    ensures { λ r. ⌜ r ≡ isDigit b ⌝ }
+{
+    DIGIT <= entry(b)
+}
+
 // A byte's folded form: A to Z become a to z.
 pub fn folded(b: u8) -> u8
     ensures { λ r. ⌜ r ≡ fold b ⌝ }
@@ -334,14 +341,14 @@ fn skip_word(s: &[u8], at: usize) -> usize
 // The next word at or after a place.
 pub fn next_word(s: &[u8], at: usize) -> Word
     ensures reader { λ r. ⌜ r ≡ nextWord (now (s .entry)) at ⌝ }
-    ensures next { λ r. ⌜ Next (now (s .entry)) at r ⌝ }
+    ensures next { λ r. ⌜ NextWordIs (now (s .entry)) at r ⌝ }
 {
     let start = skip_separators(s, at);
     if s.len() <= start {
         return Word::Nothing;
     }
     let end = skip_word(s, start);
-    if end - start <= MAX_WORD {
+    if end - start <= common::MAX_WORD {
         return Word::Found { start, end };
     }
     Word::Overlong { start, end }

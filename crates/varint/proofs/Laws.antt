@@ -1,7 +1,7 @@
 -- Reading at a place gives a number exactly where the bytes from there on are that number, stored (`stored-in`), and
 -- what follows from it: a stored number is told from what follows it, and what was written is read back.
 use Prim.Native.Nat.{ℕ, zero, suc, _+_, _-_, _*_, _/_, _%_, _^_, _≤_, _<_}
-use native.Mathlib.Nat.{not-suc-le-zero, mul-assoc, mul-comm, add-mul, pow-suc, zero-mul}
+use native.Mathlib.Nat.{not-suc-le-zero, pow-suc, zero-mul}
 use native.Mathlib.Omega.{arith}
 use native.Mathlib.Numerals.{add-one}
 use mathlib.Core.Path.{_≡_, refl, sym, ap, ap₂, _∙_}
@@ -13,10 +13,10 @@ use borrow.Author.Tests.{lt-ltb, le-ltb, le-leb}
 use Rattle.common.specs.Bytes.{over}
 use Rattle.common.proofs.Cases.{split, same-or}
 use Rattle.common.proofs.Lists.{drop-head}
-use Rattle.varint.specs.Varint.{encodeIn, encode, maxBytes, StoredAt, readFrom, readIn, readAt, onVarint, roomAfter}
+use Rattle.common.proofs.Numbers.{digits-pos, digits-rest, digits-some, digits-join}
+use Rattle.varint.specs.Varint.{encodeIn, encode, maxVarint, StoredAt, readFrom, readIn, readAt, onVarint, roomAfter}
 use Rattle.varint.specs.declared.Varint.{Varint}
 use Rattle.varint.specs.declared.Varint.the-variants.{Value, Refused}
-use Rattle.varint.proofs.General.{pow-pos}
 use Rattle.varint.proofs.Steps.{none-left, past-end, last, only-zero, long-zero, more-suc, no-byte}
 
 -- ---- what is read
@@ -80,22 +80,6 @@ encode-bytes (suc most) v i =
     big r zero = omega arith
     big r (suc i) = r i
 
--- what is left of a number of two bytes and more fits the bytes that are left, of which there are some
-rest-fits : (most v : ℕ) → v < 128 ^ suc most → v / 128 < 128 ^ most
-rest-fits most v h = omega (arith, pow-suc 128 most)
-
-some-left : (most v : ℕ) → 0 < v → v < 128 ^ most → 0 < most
-some-left zero v p h = omega arith
-some-left (suc most) v p h = omega arith
-
--- a digit, and the digits above it
-join : (value d w scale : ℕ) → value + d * scale + w * (scale * 128) ≡ value + (w * 128 + d) * scale
-join value d w scale =
-    let a = add-mul (w * 128) d scale in
-    let b = mul-assoc w 128 scale in
-    let m = ap (λ (n : ℕ). w * n) (mul-comm 128 scale) in
-    omega arith
-
 -- ---- what is stored is read
 
 complete-small : (left : ℕ) (s : List ℕ) (i value scale w : ℕ) (t : List ℕ) → w < 128 → (w ≡ 0 → scale ≡ 1)
@@ -121,7 +105,7 @@ complete-big left s i value scale w t h e ih =
     let b = getD s i 0 - 128 in
     more-suc s i value scale left (d .0) (omega arith) (omega arith)
     ∙ ih (value + b * scale) (d .2)
-    ∙ ap₂ Value (join value b (w / 128) scale ∙ ap (λ (n : ℕ). value + n * scale) (omega arith)) (omega arith)
+    ∙ ap₂ Value (digits-join value b (w / 128) scale ∙ ap (λ (n : ℕ). value + n * scale) (omega arith)) (omega arith)
 
 complete : (left : ℕ) (s : List ℕ) (i value scale w : ℕ) (t : List ℕ) → 0 < left → w < 128 ^ left → (w ≡ 0 → scale ≡ 1)
     → drop i s ≡ encodeIn left w ++ t → readFrom left s i value scale ≡ Value (value + w * scale) (i + length (encodeIn left w))
@@ -133,11 +117,11 @@ complete (suc left) s i value scale w t z h o e =
     rw c (complete-small left s i value scale w t small o (e ∙ ap (λ (l : List ℕ). l ++ t) c)))
     (λ big.
     let c = encode-big left w big in
-    let r = rest-fits left w h in
+    let r = digits-rest left w h in
     rw c
     (complete-big left s i value scale w (encodeIn left (w / 128) ++ t) big (e ∙ ap (λ (l : List ℕ). l ++ t) c)
     (λ b d.
-    complete left s (i + 1) b (scale * 128) (w / 128) t (some-left left (w / 128) (omega arith) r) r (λ (q : w / 128 ≡ 0). absurd (omega arith)) d)))
+    complete left s (i + 1) b (scale * 128) (w / 128) t (digits-some left (w / 128) (omega arith) r) r (λ (q : w / 128 ≡ 0). absurd (omega arith)) d)))
 
 -- ---- what is read is stored
 
@@ -155,7 +139,7 @@ sound-last : (left : ℕ) (s : List ℕ) (i value scale v next : ℕ) → i < le
     → v ≡ value + getD s i 0 * scale → next ≡ i + 1 → ReadFrom (suc left) s i value scale v next
 sound-last left s i value scale v next h b o ev en =
     let c = encode-small left (getD s i 0) b in
-    let p = pow-pos left in
+    let p = digits-pos left in
     record {
       w = getD s i 0;
       whole = ev;
@@ -177,7 +161,7 @@ sound-more left s i value scale v next h b b′ r =
     let eb : 128 + w % 128 ≡ getD s i 0 = omega arith in
     record {
       w = w;
-      whole = r .whole ∙ join value d (r .w) scale;
+      whole = r .whole ∙ digits-join value d (r .w) scale;
       small = omega (arith, pow-suc 128 left, r .small);
       shortest = λ (q : w ≡ 0). absurd (omega arith);
       ends = rw (c, er) (r .ends ∙ omega arith);
@@ -227,8 +211,8 @@ stored-in most s at v next z = (there, back)
         ∙ ap₂ Value (omega arith) (sym (h .ends))
 
 -- in one to nine bytes
-pub stored-at : (s : List ℕ) (at v next : ℕ) → (readAt s at ≡ Value v next) ↔ StoredAt maxBytes s at v next
-stored-at s at v next = stored-in maxBytes s at v next (omega arith)
+pub stored-at : (s : List ℕ) (at v next : ℕ) → (readAt s at ≡ Value v next) ↔ StoredAt maxVarint s at v next
+stored-at s at v next = stored-in maxVarint s at v next (omega arith)
 
 -- reading is refused exactly where no number is stored
 pub refused-in : (most : ℕ) (s : List ℕ) (at : ℕ) → 0 < most
@@ -242,12 +226,12 @@ refused-in most s at z = (there, λ n. back (readIn most s at) (λ v next e. n v
     back (Value v next) n = absurd (n v next refl)
     back Refused n = refl
 
-pub refused-at : (s : List ℕ) (at : ℕ) → (readAt s at ≡ Refused) ↔ ((v next : ℕ) → StoredAt maxBytes s at v next → ⊥)
-refused-at s at = refused-in maxBytes s at (omega arith)
+pub refused-at : (s : List ℕ) (at : ℕ) → (readAt s at ≡ Refused) ↔ ((v next : ℕ) → StoredAt maxVarint s at v next → ⊥)
+refused-at s at = refused-in maxVarint s at (omega arith)
 
 -- an answer that is what reading gives says exactly what is stored
 pub reads-stored : {r : Varint} (s : List ℕ) (at : ℕ) → r ≡ readAt s at
-    → (r ≡ readAt s at) × ((v next : ℕ) → (r ≡ Value v next) ↔ StoredAt maxBytes s at v next)
+    → (r ≡ readAt s at) × ((v next : ℕ) → (r ≡ Value v next) ↔ StoredAt maxVarint s at v next)
 reads-stored s at e = (e, λ v next. let l = stored-at s at v next in (λ p. l .0 (sym e ∙ p), λ h. e ∙ l .1 h))
 
 -- a number that stands before anything is read
@@ -287,5 +271,5 @@ pub reads-written : (v : ℕ) (room : List ℕ) → v < 2 ^ 63 → length (encod
     → readAt (roomAfter v room) 0 ≡ Value v (length (encode v))
 reads-written v room h f =
     ap (λ (s : List ℕ). readAt s 0) (room-written v room h f)
-    ∙ reads maxBytes (over (encode v) room) 0 v (drop (length (encode v)) room) (omega arith) h refl
+    ∙ reads maxVarint (over (encode v) room) 0 v (drop (length (encode v)) room) (omega arith) h refl
     ∙ ap (λ (n : ℕ). Value v n) (omega arith)

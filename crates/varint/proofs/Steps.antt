@@ -1,16 +1,16 @@
 -- What `readFrom` gives at each kind of byte, and what the scale leaves room for.
 use Prim.Native.Nat.{ℕ, zero, suc, _+_, _-_, _*_, _^_, _≤_, _<_}
-use native.Mathlib.Nat.{not-suc-le-zero, mul-assoc, pow-succ', mul-le-mul-left, mul-le-mul-right, mul-one, le-pred-of-lt}
+use native.Mathlib.Nat.{not-suc-le-zero}
 use native.Mathlib.Omega.{arith}
 use native.Mathlib.Numerals.{sub-one}
-use mathlib.Core.Path.{_≡_, refl, sym, ap, ap₂, _∙_}
+use mathlib.Core.Path.{_≡_, refl, ap₂, _∙_}
 use mathlib.Core.List.{List}
 use lib.ListN.{length, getD}
 use borrow.Author.Tests.{lt-ltb, le-ltb, eq-eqb, ne-eqb}
 use Rattle.common.proofs.Cases.{split}
+use Rattle.common.proofs.Numbers.{scale-step, scale-room, digit-room}
 use Rattle.varint.specs.Varint.{readFrom, readAt}
 use Rattle.varint.specs.declared.Varint.the-variants.{Value, Refused}
-use Rattle.varint.proofs.General.{pow-pos}
 
 -- ---- a byte
 
@@ -73,20 +73,6 @@ one-byte s at h b = split 0 (getD s at 0)
     (λ p. only-zero s at 0 1 9 (omega arith) h b p refl ∙ ap₂ Value (omega arith) refl)
 
 -- ---- the scale
-
--- the scale and what the bytes that are left can hold make up the limit, and so do those of the next byte
-scale-step : (limit scale left : ℕ) → 0 < left → scale * 128 ^ left ≡ limit → scale * 128 * 128 ^ (left - 1) ≡ limit
-scale-step limit scale zero z e = absurd (not-suc-le-zero z)
-scale-step limit scale (suc left) z e =
-    rw sub-one (mul-assoc scale 128 (128 ^ left) ∙ ap (λ (n : ℕ). scale * n) (sym (pow-succ' 128 left)) ∙ e)
-
-scale-room : (limit scale left : ℕ) → 0 < left → scale * 128 ^ left ≡ limit → scale * 128 ≤ limit
-scale-room limit scale left z e =
-    rw (← (scale-step limit scale left z e)) (rw mul-one at (mul-le-mul-left (scale * 128) (pow-pos (left - 1))))
-
--- a digit at the scale stays below the scale's next step
-digit-room : (d value scale : ℕ) → d < 128 → value < scale → value + d * scale < scale * 128
-digit-room d value scale h a = let m = mul-le-mul-right scale (le-pred-of-lt h) in omega arith
 
 -- ---- the reader's loop
 

@@ -7,9 +7,9 @@ use mathlib.Core.List.{List, [], _++_, append-nil}
 use lib.ListN.{length, set, take, drop, length-set}
 use borrow.Author.Tests.{lt-ltb, le-ltb, le-leb, lt-leb}
 use Rattle.common.specs.Bytes.{over}
+use Rattle.common.proofs.Rooms.{set-front, set-after, over-whole}
 use Rattle.varint.specs.Varint.{encodeIn, encode, writtenOf, roomAfter}
 use Rattle.varint.specs.declared.Written.the-variants.{Bytes, NoRoom, TooLarge}
-use Rattle.varint.proofs.General.{set-front, set-behind, over-whole}
 use Rattle.varint.proofs.Laws.{encode-small, encode-big, encode-pos, encode-most, room-written}
 
 -- ---- how many bytes a number takes
@@ -77,7 +77,7 @@ module _ {most v : ℕ} {before : List ℕ} {i rest : ℕ} {room : List ℕ} (w 
             small = omega (arith, pow-suc 128 (suc left));
             count = omega (arith, ap length e);
             front = set-front room (encodeIn most v) (encodeIn (suc left) (rest / 128)) i (128 + rest % 128) h (rw e at f);
-            behind = set-behind room before i (128 + rest % 128) (w .behind);
+            behind = set-after room before i (128 + rest % 128) (w .behind);
             same = simp length-set (w .same);
           }
 
@@ -88,7 +88,7 @@ module _ {most v : ℕ} {before : List ℕ} {i rest : ℕ} {room : List ℕ} (w 
       let f = set-front room (encodeIn most v) [] i rest h (rw e at (w .front)) in
       over-whole (set room i rest) before (encodeIn most v) (i + 1) n
       (sym (append-nil (take (i + 1) (set room i rest))) ∙ f)
-      (set-behind room before i rest (w .behind))
+      (set-after room before i rest (w .behind))
 
 -- ---- what the writer answers
 

@@ -21,12 +21,12 @@ encodeIn zero v = []
 encodeIn (suc most) v = pick (ltb v 128) (v ∷ []) ((128 + v % 128) ∷ encodeIn most (v / 128))
 
 -- one to nine bytes
-abbrev pub maxBytes : ℕ
-maxBytes = 9
+abbrev pub maxVarint : ℕ
+maxVarint = 9
 
 -- as document 01 stores numbers
 abbrev pub encode : ℕ → List ℕ
-encode v = encodeIn maxBytes v
+encode v = encodeIn maxVarint v
 
 -- the bytes of `s` from the place `at` up to the place `next` are `v`, stored
 pub record StoredAt (most : ℕ) (s : List ℕ) (at v next : ℕ) : Type 0 where
@@ -52,7 +52,7 @@ readIn most s at = readFrom most s at 0 1
 
 -- a number as document 01 stores it
 abbrev pub readAt : List ℕ → ℕ → Varint
-readAt s at = readIn maxBytes s at
+readAt s at = readIn maxVarint s at
 
 -- what goes on with a number and the place after it, or `none` where no number is stored
 abbrev pub onVarint {ℓ} : {X : Type ℓ} → X → Varint → (ℕ → ℕ → X) → X

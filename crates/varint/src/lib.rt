@@ -7,10 +7,10 @@ ghost use mathlib.Core.Logic.{_↔_};
 ghost use Prim.Native.Nat.{ℕ, _≤_, _<_, _^_};
 ghost use lib.ListN.{length};
 ghost use Rattle.common.specs.Bytes.{over};
-ghost use Rattle.varint.specs.Varint.{maxBytes, encode, StoredAt, readAt, writtenOf, roomAfter};
+ghost use Rattle.varint.specs.Varint.{maxVarint, encode, StoredAt, readAt, writtenOf, roomAfter};
 
 // The largest number of bytes that a number takes.
-pub const MAX_BYTES: usize = 9;
+pub const MAX_VARINT: usize = 9;
 
 // One above the largest number that can be stored.
 pub const LIMIT: u64 = 0x8000_0000_0000_0000;
@@ -42,12 +42,12 @@ pub enum Written {
 // The number that is stored from the place `at` on, read byte by byte.
 pub fn read_long(s: &[u8], at: usize) -> Varint
     ensures reader { λ r. ⌜ r ≡ readAt (now (s .entry)) at ⌝ }
-    ensures stored { λ r. ⌜ ((v next : ℕ) → (r ≡ Varint.Value v next) ↔ StoredAt maxBytes (now (s .entry)) at v next) ⌝ }
+    ensures stored { λ r. ⌜ ((v next : ℕ) → (r ≡ Varint.Value v next) ↔ StoredAt maxVarint (now (s .entry)) at v next) ⌝ }
 {
     let mut value: u64 = 0;
     let mut scale: u64 = 1;
     let mut i = at;
-    let mut left = MAX_BYTES;
+    let mut left = MAX_VARINT;
     while 0 < left {
         if s.len() <= i {
             return Varint::Refused;
@@ -77,7 +77,7 @@ pub fn read_long(s: &[u8], at: usize) -> Varint
 // be compiled into its callers' loops.
 pub fn read(s: &[u8], at: usize) -> Varint
     ensures reader { λ r. ⌜ r ≡ readAt (now (s .entry)) at ⌝ }
-    ensures stored { λ r. ⌜ ((v next : ℕ) → (r ≡ Varint.Value v next) ↔ StoredAt maxBytes (now (s .entry)) at v next) ⌝ }
+    ensures stored { λ r. ⌜ ((v next : ℕ) → (r ≡ Varint.Value v next) ↔ StoredAt maxVarint (now (s .entry)) at v next) ⌝ }
 {
     if s.len() <= at {
         return Varint::Refused;
@@ -98,7 +98,7 @@ pub fn size(v: u64) -> usize
 {
     let mut rest = v;
     let mut n: usize = 1;
-    while BASE <= rest && n < MAX_BYTES {
+    while BASE <= rest && n < MAX_VARINT {
         rest /= BASE;
         n += 1;
     }

@@ -1,5 +1,5 @@
 -- What each test of the writer says of its answer.
-use Prim.Native.Nat.{ℕ, zero, suc, _+_, _-_, _≤_, _<_}
+use Prim.Native.Nat.{ℕ, suc, _+_, _≤_, _<_}
 use native.Mathlib.Nat.{not-suc-le-zero}
 use native.Mathlib.Numerals.{add-one}
 use native.Mathlib.Omega.{arith}
@@ -7,21 +7,20 @@ use lib.IntN.{ℤ, pos, negsuc}
 use lib.Signed.{ltZ}
 use mathlib.Core.Path.{_≡_, refl, sym, ap, subst, _∙_}
 use mathlib.Core.Bool.{Bool, true, false}
-use mathlib.Core.List.{List, [], _∷_, map}
+use mathlib.Core.List.{List, [], map}
 use lib.ListN.{length, getD, drop, drop-of-length-le}
 use lib.Seq.{drop-cons}
-use lib.Dec.{ltb}
 use borrow.Author.Tests.{ltb-true, le-leb, lt-leb, le-ltb}
-use Rattle.common.specs.Pick.{pick, either}
+use Rattle.common.specs.Pick.{either}
 use Rattle.common.proofs.Cases.{false-not-true}
-use Rattle.tokenizer.specs.Word.{placesFrom, wordAt, wordsOf, maxWord, nextWord}
-use Rattle.tokenizer.specs.declared.Word.{Word}
-use Rattle.tokenizer.specs.declared.Word.the-variants.{Found, Overlong, Nothing}
-use Rattle.tokenizer.proofs.Laws.{found-bounds, found-first, found-short, overlong-bounds, overlong-first, overlong-long, nothing-first}
+use Rattle.common.specs.Bounds.{maxWord}
+use Rattle.tokenizer.specs.Word.{placesFrom, wordAt, wordsOf, nextWord}
+use Rattle.tokenizer.specs.declared.Word.the-variants.{Found, Overlong}
+use Rattle.tokenizer.proofs.Laws.{found-bounds, found-first, found-short, overlong-bounds, overlong-first, overlong-long}
 use Rattle.tokenizer.proofs.Folds.{word-length}
-use Rattle.offsets.specs.Cut.{cuts, cut}
+use Rattle.offsets.specs.Cut.{cuts}
 use Rattle.writer.specs.Answers.{isDocid, isDocument, hasOverlong, firstOverlong}
-use Rattle.writer.proofs.Gathering.{overlong-here, none-behind}
+use Rattle.writer.proofs.Gathering.{overlong-here}
 
 -- ---- number 1
 

@@ -1,11 +1,11 @@
 -- How a document's rows are gathered: word by word in a column, and column by column.
-use Prim.Native.Nat.{ℕ, zero, suc, _+_, _-_, _*_, _≤_, _<_}
+use Prim.Native.Nat.{ℕ, zero, suc, _+_, _-_, _≤_, _<_}
 use native.Mathlib.Nat.{not-suc-le-zero}
 use native.Mathlib.Numerals.{add-one}
 use native.Mathlib.Omega.{arith}
 use mathlib.Core.Path.{_≡_, refl, sym, ap, subst, _∙_}
 use mathlib.Core.Logic.{_⊎_, inl, inr, ⊎-elim}
-use mathlib.Core.Bool.{Bool, true, false}
+use mathlib.Core.Bool.{true, false}
 use mathlib.Core.List.{List, [], _∷_, _++_, map, List·Memᴰ, List·Memᴰ·head, List·Memᴰ·tail, List·Memᴰ·cases-cons}
 use lib.ListN.{length, getD, take, drop, length-append, drop-of-length-le}
 use lib.Seq.{drop-cons}
@@ -14,34 +14,34 @@ use denote.Enum.Declared.{tagOf}
 use borrow.Author.Tests.{lt-ltb}
 use Rattle.common.specs.Pick.{pick, either}
 use Rattle.common.specs.Bytes.{part}
-use Rattle.common.proofs.Cases.{split, bool-case, false-not-true}
-use Rattle.tokenizer.specs.Word.{Place, wordStart, placesIn, placesFrom, places, wordAt, wordsOf, maxWord, nextWord}
+use Rattle.common.proofs.Cases.{split, bool-case, false-not-true, either-false-right}
+use Rattle.common.proofs.Members.{member-at, at-member}
+use Rattle.common.specs.Bounds.{maxWord}
+use Rattle.tokenizer.specs.Word.{Place, wordStart, placesIn, placesFrom, places, wordAt, wordsOf, nextWord}
 use Rattle.tokenizer.specs.declared.Word.{Word}
 use Rattle.tokenizer.specs.declared.Word.the-variants.{Found, Overlong, Nothing}
-use Rattle.tokenizer.proofs.General.{member-at}
 use Rattle.tokenizer.proofs.Word.{the-type}
-use Rattle.tokenizer.proofs.Laws.{placed-some, placed-none, start-end, places-none, found-bounds, found-first, overlong-bounds, overlong-first, overlong-long, nothing-first}
+use Rattle.tokenizer.proofs.Laws.{placed-some, placed-none, found-bounds, found-first, overlong-bounds, overlong-first, overlong-long, nothing-first}
 use Rattle.tokenizer.proofs.Folds.{word-length}
 use Rattle.offsets.specs.Cut.{Cuts, cut}
 use Rattle.offsets.specs.Cut as offsets
 use Rattle.offsets.proofs.Cuts as cuts
-use Rattle.document.proofs.General.{at-member}
 use Rattle.writer.specs.Answers.{hasOverlong}
-use Rattle.writer.specs.Rows.{rowOf, startOf, endOf, columnOf, positionOf, wordOf, Inside, AllInside, placeRows, columnRows, rowsFrom, documentRows, notBefore, insertRow, insertRows, Addable, AddedTo, Gatherable, Gathered}
+use Rattle.writer.specs.Rows.{rowOf, rowStart, endOf, rowColumn, rowPosition, rowWord, RowInside, AllInside, placeRows, columnRows, rowsFrom, documentRows, notBefore, insertRow, insertRows, Addable, AddedTo, Gatherable, Gathered}
 
 -- ---- a row's parts
 
 module _ (a e c p : ℕ) (ha : a < 65536) (he : e < 65536) (hc : c < 65536) (hp : p < 65536) where
-  pub row-start : startOf (rowOf a e c p) ≡ a
+  pub row-start : rowStart (rowOf a e c p) ≡ a
   row-start = omega arith
 
   pub row-end : endOf (rowOf a e c p) ≡ e
   row-end = omega arith
 
-  pub row-column : columnOf (rowOf a e c p) ≡ c
+  pub row-column : rowColumn (rowOf a e c p) ≡ c
   row-column = omega arith
 
-  pub row-position : positionOf (rowOf a e c p) ≡ p
+  pub row-position : rowPosition (rowOf a e c p) ≡ p
   row-position = omega arith
 
 -- ---- rows inside the texts
@@ -49,27 +49,23 @@ module _ (a e c p : ℕ) (ha : a < 65536) (he : e < 65536) (hc : c < 65536) (hp 
 pub insert-from : (folded : List ℕ) (row x : ℕ) (rows : List ℕ) → List·Memᴰ x (insertRow folded row rows) → (x ≡ row) ⊎ List·Memᴰ x rows
 insert-from folded row x [] m = List·Memᴰ·cases-cons m
 insert-from folded row x (r ∷ rows) m =
-    bool-case (notBefore folded (wordOf folded row) r)
+    bool-case (notBefore folded (rowWord folded row) r)
     (λ t. ⊎-elim
     (λ (e : x ≡ r). inr (List·Memᴰ·head e))
     (λ (n : List·Memᴰ x (insertRow folded row rows)). ⊎-elim (λ (e : x ≡ row). inl e) (λ (k : List·Memᴰ x rows). inr (List·Memᴰ·tail k)) (insert-from folded row x rows n))
     (List·Memᴰ·cases-cons (subst (λ b. List·Memᴰ x (pick b (r ∷ insertRow folded row rows) (row ∷ r ∷ rows))) t m)))
     (λ t. List·Memᴰ·cases-cons (subst (λ b. List·Memᴰ x (pick b (r ∷ insertRow folded row rows) (row ∷ r ∷ rows))) t m))
 
-pub inside-insert : (n : ℕ) (folded : List ℕ) (row : ℕ) (rows : List ℕ) → AllInside n rows → Inside n row → AllInside n (insertRow folded row rows)
+pub inside-insert : (n : ℕ) (folded : List ℕ) (row : ℕ) (rows : List ℕ) → AllInside n rows → RowInside n row → AllInside n (insertRow folded row rows)
 inside-insert n folded row rows f h i k =
     ⊎-elim
-    (λ (e : getD (insertRow folded row rows) i 0 ≡ row). subst (Inside n) (sym e) h)
+    (λ (e : getD (insertRow folded row rows) i 0 ≡ row). subst (RowInside n) (sym e) h)
     (λ (m : List·Memᴰ (getD (insertRow folded row rows) i 0) rows).
     let r = at-member rows 0 (getD (insertRow folded row rows) i 0) m in
-    subst (Inside n) (r .2) (f (r .0) (r .1)))
+    subst (RowInside n) (r .2) (f (r .0) (r .1)))
     (insert-from folded row (getD (insertRow folded row rows) i 0) rows (member-at (insertRow folded row rows) 0 i k))
 
 -- ---- words over 64 bytes
-
-either-second : (a b : Bool) → either a b ≡ false → b ≡ false
-either-second true b e = false-not-true (sym e)
-either-second false b e = e
 
 -- no word from the place `at` on is over 64 bytes
 abbrev pub ShortFrom : List ℕ → ℕ → Type 0
@@ -78,7 +74,7 @@ ShortFrom s at = hasOverlong (map (wordAt s) (placesFrom s at)) ≡ false
 module _ (s : List ℕ) (at a e : ℕ) (first : placesFrom s at ≡ record { start = a; end = e } ∷ placesFrom s e) where
   pub short-next : ShortFrom s at → ShortFrom s e
   short-next h =
-      either-second (ltb maxWord (length (wordAt s (record { start = a; end = e })))) (hasOverlong (map (wordAt s) (placesFrom s e)))
+      either-false-right (ltb maxWord (length (wordAt s (record { start = a; end = e })))) (hasOverlong (map (wordAt s) (placesFrom s e)))
       (subst (λ ps. hasOverlong (map (wordAt s) ps) ≡ false) first h)
 
   pub overlong-here : e ≤ length s → maxWord < e - a → hasOverlong (map (wordAt s) (placesFrom s at)) ≡ true
@@ -92,9 +88,6 @@ no-more s at (Found a e) q n h = ⊎-elim (λ (k : _≡_ {A = ℕ} 0 1). absurd 
 no-more s at (Overlong a e) q n h =
     false-not-true (sym h ∙ overlong-here s at a e (overlong-first s at a e (sym q)) (overlong-bounds s at a e (sym q) .2) (overlong-long s at a e (sym q)))
 no-more s at Nothing q n h = nothing-first s at (sym q)
-
-pub none-behind : (s : List ℕ) (at : ℕ) → length s ≤ at → placesFrom s at ≡ []
-none-behind s at h = places-none s at (omega (arith, start-end s at h))
 
 -- ---- how many words there are
 
@@ -151,7 +144,7 @@ module _ (text : List ℕ) (base column : ℕ) (folded before : List ℕ) (n : �
       pub adding-fits : (base + e ≤ 4096) × (n + position < length rows) × (position < 4096)
       adding-fits = omega (arith, bounds .0, bounds .1, bounds .2, h .stands, h .bytes, h .room, m .passed, m .same)
 
-      pub adding-inside : Inside (length folded) (rowOf (base + a) (base + e) column position)
+      pub adding-inside : RowInside (length folded) (rowOf (base + a) (base + e) column position)
       adding-inside =
           let f = adding-fits in
           let c = h .columns in
@@ -178,7 +171,7 @@ module _ (text : List ℕ) (base column : ℕ) (folded before : List ℕ) (n : �
             same = s ∙ m .same;
             short = short-next text at a e first (m .short);
             inside = subst (AllInside (length folded)) (sym u)
-                (inside-insert (length folded) folded row (take (n + position) rows) (m .inside) (subst (Inside (length folded)) (sym r) adding-inside));
+                (inside-insert (length folded) folded row (take (n + position) rows) (m .inside) (subst (RowInside (length folded)) (sym r) adding-inside));
             sorted =
                 ap (λ l. insertRows folded l (placeRows base column (position + 1) (placesFrom text e))) u
                 ∙ ap (λ j. insertRows folded (insertRow folded row (take (n + position) rows)) (placeRows base column j (placesFrom text e))) (add-one position)
@@ -234,13 +227,13 @@ module _ (s es folded before : List ℕ) (h : Gatherable s es folded before) whe
     module _ (k : i < length es) (text : List ℕ) (t : text ≡ getD (cut s es) i []) where
       text-length : base + length text ≡ getD es i 0
       text-length =
-          omega (arith, ap length t, cuts.part-length s es (h .shape) i k, cuts.part-start s es (h .shape) i k, g .starts)
+          omega (arith, ap length t, cuts.cut-length s es (h .shape) i k, cuts.cut-start s es (h .shape) i k, g .starts)
 
       text-part : text ≡ part s base (getD es i 0)
-      text-part = t ∙ cuts.part-at s es i k ∙ ap (λ b. part s b (getD es i 0)) (sym (g .starts))
+      text-part = t ∙ cuts.cut-at s es i k ∙ ap (λ b. part s b (getD es i 0)) (sym (g .starts))
 
       text-ends : getD es i 0 ≤ length s
-      text-ends = cuts.part-end s es (h .shape) i k
+      text-ends = cuts.cut-end s es (h .shape) i k
 
       pub gathering-adds : Addable text base i folded rows n
       gathering-adds = record {

@@ -1,23 +1,22 @@
--- How a row comes to its place among sorted rows: where the place is, and how the rows behind it move up.
+-- How a row comes to its place among sorted rows: where the place is, and how the rows after it move up.
 use Prim.Native.Nat.{ℕ, zero, suc, _+_, _-_, _≤_, _<_}
 use native.Mathlib.Numerals.{add-one}
 use native.Mathlib.Omega.{arith}
 use mathlib.Core.Path.{_≡_, refl, sym, ap, subst, _∙_}
-use mathlib.Core.Bool.{Bool, true, false, not}
-use mathlib.Core.List.{List, [], _∷_, _++_, append-assoc}
-use lib.ListN.{length, getD, take, drop, set, length-append, length-drop, length-take, length-set}
-use lib.Seq.{take-nil, take-suc, take-suc-set, drop-cons, drop-drop, drop-set-lt, getD-drop, getD-append-add, getD-append-seam, length-take-le, take-append-le, take-append-add, take-take}
-use Rattle.common.specs.Pick.{pick}
+use mathlib.Core.Bool.{Bool, true, false}
+use mathlib.Core.List.{List, [], _∷_, _++_}
+use lib.ListN.{length, getD, take, drop, set, length-append, length-drop, length-set}
+use lib.Seq.{take-nil, take-suc, take-suc-set, drop-drop, drop-set-lt, getD-drop, getD-append-add, getD-append-seam, length-take-le, take-append-le, take-append-add, take-take}
 use Rattle.common.specs.Bytes.{part, span}
 use Rattle.common.proofs.Cases.{bool-case}
-use Rattle.common.proofs.Lists.{span-most}
-use Rattle.document.specs.Document.{earlier}
-use Rattle.writer.specs.Rows.{wordOf, notBefore, insertRow}
+use Rattle.common.proofs.Runs.{span-most}
+use Rattle.leaf.specs.Leaf.{isBefore}
+use Rattle.writer.specs.Rows.{rowWord, notBefore, insertRow}
 
 -- ---- the place
 
 -- what a test of a row's word says
-module _ (folded w x : List ℕ) (row : ℕ) (b : Bool) (e : b ≡ earlier w x) (q : x ≡ wordOf folded row) where
+module _ (folded w x : List ℕ) (row : ℕ) (b : Bool) (e : b ≡ isBefore w x) (q : x ≡ rowWord folded row) where
   pub place-found : b ≡ true → notBefore folded w row ≡ false
   place-found t = rw (← q, ← e, t) refl
 
@@ -26,11 +25,11 @@ module _ (folded w x : List ℕ) (row : ℕ) (b : Bool) (e : b ≡ earlier w x) 
 
 -- rows are split at the place
 pub insert-splits : (folded : List ℕ) (row : ℕ) (rows : List ℕ)
-    → insertRow folded row rows ≡ take (span (notBefore folded (wordOf folded row)) rows) rows ++ row ∷ drop (span (notBefore folded (wordOf folded row)) rows) rows
+    → insertRow folded row rows ≡ take (span (notBefore folded (rowWord folded row)) rows) rows ++ row ∷ drop (span (notBefore folded (rowWord folded row)) rows) rows
 unfolding span
 insert-splits folded row [] = refl
 insert-splits folded row (r ∷ rows) =
-    bool-case (notBefore folded (wordOf folded row) r)
+    bool-case (notBefore folded (rowWord folded row) r)
     (λ t. rw t (ap (λ l. r ∷ l) (insert-splits folded row rows)))
     (λ t. rw t refl)
 
@@ -105,7 +104,7 @@ module _ (before : List ℕ) (at row : ℕ) (h : at ≤ length before) where
 
 -- what the first `n` rows are split into
 pub insert-placed : (folded : List ℕ) (row : ℕ) (rows after : List ℕ) (n at : ℕ) → n ≤ length rows
-    → at ≡ span (notBefore folded (wordOf folded row)) (take n rows) → at ≤ n
+    → at ≡ span (notBefore folded (rowWord folded row)) (take n rows) → at ≤ n
     → take (n + 1) after ≡ take at rows ++ row ∷ part rows at n
     → take (n + 1) after ≡ insertRow folded row (take n rows)
 insert-placed folded row rows after n at h e l q =
@@ -127,6 +126,6 @@ module _ (folded w : List ℕ) (row : ℕ) (rows : List ℕ) (n at : ℕ) (h : n
   pub place-within : at ≤ n
   place-within = omega (arith, span-most (notBefore folded w) (take n rows), length-take-le n rows (omega arith))
 
-  pub inserted : w ≡ wordOf folded row → (after : List ℕ) → take (n + 1) after ≡ take at rows ++ row ∷ part rows at n → take (n + 1) after ≡ insertRow folded row (take n rows)
+  pub inserted : w ≡ rowWord folded row → (after : List ℕ) → take (n + 1) after ≡ take at rows ++ row ∷ part rows at n → take (n + 1) after ≡ insertRow folded row (take n rows)
   inserted q after s =
       insert-placed folded row rows after n at (omega arith) (e ∙ ap (λ x. span (notBefore folded x) (take n rows)) q) place-within s

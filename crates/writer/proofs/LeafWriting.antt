@@ -1,25 +1,23 @@
 -- What the parts of the writer say together: the sorted rows can be written, and what is written is the leaf.
-use Prim.Native.Nat.{ℕ, zero, suc, _+_, _-_, _^_, _≤_, _<_}
+use Prim.Native.Nat.{ℕ, zero, suc, _-_, _≤_, _<_}
 use native.Mathlib.Nat.{not-suc-le-zero, le-of-suc-le-suc}
 use native.Mathlib.Omega.{arith}
-use mathlib.Core.Path.{_≡_, refl, sym, ap, subst, _∙_}
-use mathlib.Core.Bool.{Bool, true, false}
+use mathlib.Core.Path.{_≡_, sym, ap, subst, _∙_}
+use mathlib.Core.Bool.{false}
 use mathlib.Core.List.{List, [], _∷_, _++_, map}
 use lib.ListN.{length, getD, take, replicate, length-take, length-map, length-replicate}
 use borrow.Author.Tests.{le-leb, lt-leb}
 use Rattle.common.specs.Pick.{pick}
 use Rattle.common.specs.Bytes.{over}
 use Rattle.common.proofs.Cases.{bool-case}
+use Rattle.common.proofs.Rooms.{over-length, zeros-over}
 use Rattle.tokenizer.specs.Word.{fold, wordsOf}
-use Rattle.offsets.specs.Cut.{Cuts, cut}
-use Rattle.offsets.proofs.Cuts.{length-cut, in-cut}
+use Rattle.offsets.specs.Cut.{cut}
 use Rattle.document.specs.Document.{documentLeaf}
 use Rattle.writer.specs.declared.Answer.the-variants.{Written, Room}
-use Rattle.writer.specs.Answers.{hasOverlong, firstOverlong, Writing, fitted, held}
-use Rattle.writer.specs.Rows.{AllInside, documentRows, insertRows, Gatherable, Gathered}
+use Rattle.writer.specs.Answers.{hasOverlong, firstOverlong, Writing, fittedAnswer, held}
+use Rattle.writer.specs.Rows.{documentRows, insertRows, Gatherable, Gathered}
 use Rattle.writer.specs.Stored.{Grouped, termsOf, Table}
-use Rattle.writer.proofs.General.{over-length, zeros-over}
-use Rattle.writer.proofs.RowWords.{Folded}
 use Rattle.writer.proofs.Sorting.{sorted-grouped}
 use Rattle.writer.proofs.LeafLaw.{document-sorted, stored-leaf}
 
@@ -68,10 +66,10 @@ module _ (docid : ℕ) (s es : List ℕ) (w : Writing docid s es) (folded room :
 -- ---- the answers, where the leaf needs `need` bytes
 
 module _ (leaf : List ℕ) (need size : ℕ) (k : need ≡ length leaf) (room : List ℕ) (z : room ≡ replicate size 0) where
-  pub answer-room : size < need → (Room need ≡ fitted (length leaf) size) × (room ≡ held size leaf (Room need))
+  pub answer-room : size < need → (Room need ≡ fittedAnswer (length leaf) size) × (room ≡ held size leaf (Room need))
   answer-room h = (rw (lt-leb (length leaf) size (omega arith)) (ap Room k), z)
 
-  pub answer-written : need ≤ size → (after : List ℕ) → after ≡ over leaf room → (Written need ≡ fitted (length leaf) size) × (after ≡ held size leaf (Written need))
+  pub answer-written : need ≤ size → (after : List ℕ) → after ≡ over leaf room → (Written need ≡ fittedAnswer (length leaf) size) × (after ≡ held size leaf (Written need))
   answer-written h after e =
       (rw (le-leb (length leaf) size (omega arith)) (ap Written k), e ∙ ap (over leaf) z ∙ zeros-over leaf size ∙ ap (λ n. leaf ++ replicate (size - n) 0) (sym k))
 

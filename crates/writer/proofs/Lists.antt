@@ -1,8 +1,8 @@
 -- The bytes of a posting list, row by row.
-use Prim.Native.Nat.{ℕ, zero, suc, _+_, _-_, _*_, _^_, _≤_, _<_}
+use Prim.Native.Nat.{ℕ, suc, _+_, _-_, _*_, _≤_, _<_}
 use native.Mathlib.Numerals.{add-one}
 use native.Mathlib.Omega.{arith}
-use mathlib.Core.Path.{_≡_, refl, sym, ap, subst, _∙_}
+use mathlib.Core.Path.{_≡_, sym, ap, subst, _∙_}
 use mathlib.Core.List.{List, [], _∷_, _++_, append-assoc, append-nil}
 use lib.ListN.{length, getD, drop, length-append, drop-of-length-le}
 use lib.Seq.{drop-cons}
@@ -12,46 +12,45 @@ use Rattle.common.proofs.Cases.{pick-case}
 use Rattle.varint.specs.Varint.{encode}
 use Rattle.varint.proofs.Laws.{encode-most}
 use Rattle.doclist.specs.Doclist.{encodeAll}
-use Rattle.doclist.proofs.Numbers.{all-append}
-use Rattle.document.proofs.Size.{all-length}
-use Rattle.writer.specs.Rows.{columnOf, positionOf, keyOf}
+use Rattle.doclist.proofs.Numbers.{all-append, all-length}
+use Rattle.writer.specs.Rows.{rowColumn, rowPosition, rowKey}
 use Rattle.writer.specs.Stored.{rowNumbers, numbersFrom, listBytes, Rises}
 
 -- ---- a row
 
-module _ (last row column position : ℕ) (c : column ≡ columnOf row) (p : position ≡ positionOf row) where
-  pub row-same : (opened before : ℕ) → opened ≡ columnOf last → before ≡ positionOf last → column ≡ opened
+module _ (last row column position : ℕ) (c : column ≡ rowColumn row) (p : position ≡ rowPosition row) where
+  pub row-same : (opened before : ℕ) → opened ≡ rowColumn last → before ≡ rowPosition last → column ≡ opened
       → encodeAll (rowNumbers last row) ≡ encode (position - before + 2)
   row-same opened before o b e =
-      let t = eq-eqb (columnOf row) (columnOf last) (sym c ∙ e ∙ o) in
-      rw t (append-nil (encode (positionOf row - positionOf last + 2)) ∙ sym (ap (λ n. encode (n - before + 2)) p ∙ ap (λ n. encode (positionOf row - n + 2)) b))
+      let t = eq-eqb (rowColumn row) (rowColumn last) (sym c ∙ e ∙ o) in
+      rw t (append-nil (encode (rowPosition row - rowPosition last + 2)) ∙ sym (ap (λ n. encode (n - before + 2)) p ∙ ap (λ n. encode (rowPosition row - n + 2)) b))
 
-  pub row-other : (opened : ℕ) → opened ≡ columnOf last → (column ≡ opened → ⊥)
+  pub row-other : (opened : ℕ) → opened ≡ rowColumn last → (column ≡ opened → ⊥)
       → encodeAll (rowNumbers last row) ≡ (encode 1 ++ encode column) ++ encode (position + 2)
   row-other opened o n =
-      let t = ne-eqb (columnOf row) (columnOf last) (λ e. n (c ∙ e ∙ sym o)) in
+      let t = ne-eqb (rowColumn row) (rowColumn last) (λ e. n (c ∙ e ∙ sym o)) in
       rw t
-      (ap (λ l. encode 1 ++ (encode (columnOf row) ++ l)) (append-nil (encode (positionOf row + 2)))
-      ∙ sym (append-assoc (encode 1) (encode (columnOf row)) (encode (positionOf row + 2)))
-      ∙ sym (ap (λ n. (encode 1 ++ encode n) ++ encode (position + 2)) c ∙ ap (λ n. (encode 1 ++ encode (columnOf row)) ++ encode (n + 2)) p))
+      (ap (λ l. encode 1 ++ (encode (rowColumn row) ++ l)) (append-nil (encode (rowPosition row + 2)))
+      ∙ sym (append-assoc (encode 1) (encode (rowColumn row)) (encode (rowPosition row + 2)))
+      ∙ sym (ap (λ n. (encode 1 ++ encode n) ++ encode (position + 2)) c ∙ ap (λ n. (encode 1 ++ encode (rowColumn row)) ++ encode (n + 2)) p))
 
-  pub row-other-length : (opened : ℕ) → opened ≡ columnOf last → (column ≡ opened → ⊥)
+  pub row-other-length : (opened : ℕ) → opened ≡ rowColumn last → (column ≡ opened → ⊥)
       → length (encodeAll (rowNumbers last row)) ≡ length (encode 1) + length (encode column) + length (encode (position + 2))
   row-other-length opened o n =
       omega (arith, ap length (row-other opened o n), length-append (encode 1 ++ encode column) (encode (position + 2)), length-append (encode 1) (encode column))
 
 row-most : (last row : ℕ) → length (encodeAll (rowNumbers last row)) ≤ 27
 row-most last row =
-    pick-case (λ vs. length (encodeAll vs) ≤ 27) (eqb (columnOf row) (columnOf last)) ((positionOf row - positionOf last + 2) ∷ []) (1 ∷ columnOf row ∷ (positionOf row + 2) ∷ [])
-    (λ _. omega (arith, length-append (encode (positionOf row - positionOf last + 2)) [], encode-most 9 (positionOf row - positionOf last + 2)))
+    pick-case (λ vs. length (encodeAll vs) ≤ 27) (eqb (rowColumn row) (rowColumn last)) ((rowPosition row - rowPosition last + 2) ∷ []) (1 ∷ rowColumn row ∷ (rowPosition row + 2) ∷ [])
+    (λ _. omega (arith, length-append (encode (rowPosition row - rowPosition last + 2)) [], encode-most 9 (rowPosition row - rowPosition last + 2)))
     (λ _. omega (
       arith,
-      length-append (encode 1) (encode (columnOf row) ++ (encode (positionOf row + 2) ++ [])),
-      length-append (encode (columnOf row)) (encode (positionOf row + 2) ++ []),
-      length-append (encode (positionOf row + 2)) [],
+      length-append (encode 1) (encode (rowColumn row) ++ (encode (rowPosition row + 2) ++ [])),
+      length-append (encode (rowColumn row)) (encode (rowPosition row + 2) ++ []),
+      length-append (encode (rowPosition row + 2)) [],
       encode-most 9 1,
-      encode-most 9 (columnOf row),
-      encode-most 9 (positionOf row + 2),
+      encode-most 9 (rowColumn row),
+      encode-most 9 (rowPosition row + 2),
     ))
 
 -- ---- rows
@@ -71,7 +70,7 @@ module _ (last : ℕ) (rows : List ℕ) (i : ℕ) where
     rises-cons : Rises last (drop i rows) → Rises last (getD rows i 0 ∷ drop (suc i) rows)
     rises-cons r = subst (Rises last) (drop-cons rows i 0 h) r
 
-    pub rises-here : Rises last (drop i rows) → keyOf last ≤ keyOf (getD rows i 0)
+    pub rises-here : Rises last (drop i rows) → rowKey last ≤ rowKey (getD rows i 0)
     rises-here r = rises-cons r .0
 
     pub rises-next : Rises last (drop i rows) → Rises (getD rows i 0) (drop (i + 1) rows)

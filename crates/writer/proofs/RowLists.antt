@@ -8,19 +8,19 @@ use mathlib.Core.Logic.{_⊎_, inl, inr, ⊎-elim}
 use mathlib.Core.Bool.{Bool, true, false}
 use mathlib.Core.List.{List, [], _∷_, _++_, map, append-assoc, append-nil}
 use lib.ListN.{length}
-use lib.Dec.{eqb}
 use borrow.Author.Tests.{eq-eqb, ne-eqb}
 use Rattle.common.specs.Bytes.{part, same}
 use Rattle.common.proofs.Cases.{bool-case}
-use Rattle.common.proofs.Lists.{same-true, same-refl}
+use Rattle.common.proofs.Same.{same-sym}
+use Rattle.common.proofs.Members.{Each}
 use Rattle.tokenizer.specs.Word.{Place, places, wordAt}
 use Rattle.offsets.specs.Cut.{endsFrom, cutFrom, cut}
+use Rattle.offsets.proofs.Cuts.{ends-step}
 use Rattle.doclist.specs.Doclist.{Column, positionNumbers, announced, columnNumbers, encodeAll, encodeList}
 use Rattle.document.specs.Document.{keepIf, positionsFrom, withColumn, columnsFrom, documentTerm}
-use Rattle.document.proofs.General.{Each}
-use Rattle.writer.specs.Rows.{rowOf, columnOf, positionOf, wordOf, placeRows, columnRows, rowsFrom, documentRows, sameWord}
-use Rattle.writer.specs.Stored.{rowNumbers, numbersFrom, listBytes}
-use Rattle.writer.proofs.RowWords.{Folded, RowIs, In, row-is, places-in, few-places, ends-told}
+use Rattle.writer.specs.Rows.{rowOf, rowColumn, rowPosition, placeRows, columnRows, rowsFrom, documentRows, sameWord}
+use Rattle.writer.specs.Stored.{numbersFrom, listBytes}
+use Rattle.writer.proofs.RowWords.{FoldedText, RowWordIs, In, row-is, places-in, few-places}
 
 -- the rows of one word
 abbrev pub kept : List ℕ → List ℕ → List ℕ → List ℕ
@@ -35,35 +35,27 @@ kept-append folded w (x ∷ xs) ys = go (sameWord folded w x) (kept-append folde
     go true e = ap (λ l. x ∷ l) e
     go false e = e
 
-same-sym : (v w : List ℕ) → same v w ≡ same w v
-same-sym v w =
-    bool-case (same v w)
-    (λ t. t ∙ sym (subst (λ x. same x v ≡ true) (same-true v w t) (same-refl v)))
-    (λ t. t ∙ bool-case (same w v)
-    (λ u. sym t ∙ subst (λ x. same v x ≡ true) (sym (same-true w v u)) (same-refl v) ∙ sym u)
-    (λ u. sym u))
-
 announced-above : (c : ℕ) → 0 < c → announced c ≡ 1 ∷ c ∷ []
 announced-above zero h = absurd (not-suc-le-zero h)
 announced-above (suc c) h = refl
 
 -- the next row stands in the column of the last one
-numbers-within : (last row c p : ℕ) (rows : List ℕ) → columnOf last ≡ c → columnOf row ≡ c → positionOf row ≡ p
-    → numbersFrom last (row ∷ rows) ≡ (p - positionOf last + 2) ∷ numbersFrom row rows
+numbers-within : (last row c p : ℕ) (rows : List ℕ) → rowColumn last ≡ c → rowColumn row ≡ c → rowPosition row ≡ p
+    → numbersFrom last (row ∷ rows) ≡ (p - rowPosition last + 2) ∷ numbersFrom row rows
 numbers-within last row c p rows e f g =
-    rw (eq-eqb (columnOf row) (columnOf last) (f ∙ sym e)) (ap (λ n. (n - positionOf last + 2) ∷ numbersFrom row rows) g)
+    rw (eq-eqb (rowColumn row) (rowColumn last) (f ∙ sym e)) (ap (λ n. (n - rowPosition last + 2) ∷ numbersFrom row rows) g)
 
 -- or in a later one
-numbers-above : (last row c p : ℕ) (rows : List ℕ) → columnOf last < c → columnOf row ≡ c → positionOf row ≡ p
+numbers-above : (last row c p : ℕ) (rows : List ℕ) → rowColumn last < c → rowColumn row ≡ c → rowPosition row ≡ p
     → numbersFrom last (row ∷ rows) ≡ 1 ∷ c ∷ (p + 2) ∷ numbersFrom row rows
 numbers-above last row c p rows l f g =
-    rw (ne-eqb (columnOf row) (columnOf last) (λ e. omega arith)) (ap (λ n. 1 ∷ n ∷ (positionOf row + 2) ∷ numbersFrom row rows) f ∙ ap (λ n. 1 ∷ c ∷ (n + 2) ∷ numbersFrom row rows) g)
+    rw (ne-eqb (rowColumn row) (rowColumn last) (λ e. omega arith)) (ap (λ n. 1 ∷ n ∷ (rowPosition row + 2) ∷ numbersFrom row rows) f ∙ ap (λ n. 1 ∷ c ∷ (n + 2) ∷ numbersFrom row rows) g)
 
 -- before column `c`: the last row stands in an earlier one, or there is none
-abbrev Before : ℕ → ℕ → Type 0
-Before c last = (columnOf last < c) ⊎ ((c ≡ 0) × (last ≡ 0))
+abbrev RowBefore : ℕ → ℕ → Type 0
+RowBefore c last = (rowColumn last < c) ⊎ ((c ≡ 0) × (last ≡ 0))
 
-module _ (s folded : List ℕ) (f : Folded s folded) (small : length s ≤ 4096) (w : List ℕ) where
+module _ (s folded : List ℕ) (f : FoldedText s folded) (small : length s ≤ 4096) (w : List ℕ) where
   module _ (base e : ℕ) (le : base ≤ e) (he : e ≤ length s) (c : ℕ) (hc : c < 16) where
     -- whether a row is kept
     row-kept : (p : ℕ) (q : Place) → p < 65536 → In s folded f small base e le he c hc q → sameWord folded w (rowOf (base + q .start) (base + q .end) c p) ≡ same (wordAt (part s base e) q) w
@@ -72,11 +64,11 @@ module _ (s folded : List ℕ) (f : Folded s folded) (small : length s ≤ 4096)
     -- the positions in a column, from a row of that column on
     pub record Within (last p : ℕ) (qs : List Place) : Type 0 where
       pub next : ℕ
-      pub column : columnOf next ≡ c
+      pub column : rowColumn next ≡ c
       pub numbers : (rest : List ℕ) → numbersFrom last (kept folded w (placeRows base c p qs) ++ rest)
-          ≡ positionNumbers (positionOf last) (positionsFrom p w (map (wordAt (part s base e)) qs)) ++ numbersFrom next rest
+          ≡ positionNumbers (rowPosition last) (positionsFrom p w (map (wordAt (part s base e)) qs)) ++ numbersFrom next rest
 
-    within : (last p : ℕ) (qs : List Place) → p + length qs ≤ 65536 → Each (In s folded f small base e le he c hc) qs → columnOf last ≡ c → Within last p qs
+    within : (last p : ℕ) (qs : List Place) → p + length qs ≤ 65536 → Each (In s folded f small base e le he c hc) qs → rowColumn last ≡ c → Within last p qs
     within last p [] h i k = record { next = last; column = k; numbers = λ rest. refl }
     within last p (q ∷ qs) h i k =
         let r = row-is s folded f small base e le he c hc p q (omega arith) (i .0) in
@@ -88,16 +80,16 @@ module _ (s folded : List ℕ) (f : Folded s folded) (small : length s ≤ 4096)
         test = row-kept p q (omega arith) (i .0)
 
         here : same (wordAt (part s base e) q) w ≡ true → Within (rowOf (base + q .start) (base + q .end) c p) (suc p) qs
-            → RowIs folded (rowOf (base + q .start) (base + q .end) c p) (wordAt (part s base e) q) c p → Within last p (q ∷ qs)
+            → RowWordIs folded (rowOf (base + q .start) (base + q .end) c p) (wordAt (part s base e) q) c p → Within last p (q ∷ qs)
         here t n r = record {
           next = n .next;
           column = n .column;
           numbers = λ rest.
               ap (λ b. numbersFrom last (keepIf b (rowOf (base + q .start) (base + q .end) c p) (kept folded w (placeRows base c (suc p) qs)) ++ rest)) (test ∙ t)
               ∙ numbers-within last (rowOf (base + q .start) (base + q .end) c p) c p (kept folded w (placeRows base c (suc p) qs) ++ rest) k (r .column) (r .position)
-              ∙ ap (λ l. (p - positionOf last + 2) ∷ l) (n .numbers rest)
-              ∙ ap (λ j. (p - positionOf last + 2) ∷ (positionNumbers j (positionsFrom (suc p) w (map (wordAt (part s base e)) qs)) ++ numbersFrom (n .next) rest)) (r .position)
-              ∙ sym (ap (λ b. positionNumbers (positionOf last) (keepIf b p (positionsFrom (suc p) w (map (wordAt (part s base e)) qs))) ++ numbersFrom (n .next) rest) t);
+              ∙ ap (λ l. (p - rowPosition last + 2) ∷ l) (n .numbers rest)
+              ∙ ap (λ j. (p - rowPosition last + 2) ∷ (positionNumbers j (positionsFrom (suc p) w (map (wordAt (part s base e)) qs)) ++ numbersFrom (n .next) rest)) (r .position)
+              ∙ sym (ap (λ b. positionNumbers (rowPosition last) (keepIf b p (positionsFrom (suc p) w (map (wordAt (part s base e)) qs))) ++ numbersFrom (n .next) rest) t);
         }
 
         there : same (wordAt (part s base e) q) w ≡ false → Within last (suc p) qs → Within last p (q ∷ qs)
@@ -107,22 +99,22 @@ module _ (s folded : List ℕ) (f : Folded s folded) (small : length s ≤ 4096)
           numbers = λ rest.
               ap (λ b. numbersFrom last (keepIf b (rowOf (base + q .start) (base + q .end) c p) (kept folded w (placeRows base c (suc p) qs)) ++ rest)) (test ∙ t)
               ∙ n .numbers rest
-              ∙ sym (ap (λ b. positionNumbers (positionOf last) (keepIf b p (positionsFrom (suc p) w (map (wordAt (part s base e)) qs))) ++ numbersFrom (n .next) rest) t);
+              ∙ sym (ap (λ b. positionNumbers (rowPosition last) (keepIf b p (positionsFrom (suc p) w (map (wordAt (part s base e)) qs))) ++ numbersFrom (n .next) rest) t);
         }
 
     -- the column, from an earlier one on
     record Opens (last p : ℕ) (qs : List Place) : Type 0 where
       next : ℕ
-      before : columnOf next < suc c
+      before : rowColumn next < suc c
       numbers : (rest : List ℕ) (cs : List Column) → numbersFrom next rest ≡ columnNumbers cs ++ (0 ∷ [])
           → numbersFrom last (kept folded w (placeRows base c p qs) ++ rest) ≡ columnNumbers (withColumn c (positionsFrom p w (map (wordAt (part s base e)) qs)) cs) ++ (0 ∷ [])
 
     -- the numbers of a column's first row
-    first-numbers : (last row p : ℕ) (rows : List ℕ) → Before c last → columnOf row ≡ c → positionOf row ≡ p → numbersFrom last (row ∷ rows) ≡ announced c ++ ((p - 0 + 2) ∷ numbersFrom row rows)
+    first-numbers : (last row p : ℕ) (rows : List ℕ) → RowBefore c last → rowColumn row ≡ c → rowPosition row ≡ p → numbersFrom last (row ∷ rows) ≡ announced c ++ ((p - 0 + 2) ∷ numbersFrom row rows)
     first-numbers last row p rows b k g =
         let z : p + 2 ≡ p - 0 + 2 = omega arith in
         ⊎-elim
-        (λ (l : columnOf last < c).
+        (λ (l : rowColumn last < c).
         numbers-above last row c p rows l k g
         ∙ ap (λ n. 1 ∷ c ∷ n ∷ numbersFrom row rows) z
         ∙ sym (ap (λ l. l ++ ((p - 0 + 2) ∷ numbersFrom row rows)) (announced-above c (omega arith))))
@@ -132,14 +124,14 @@ module _ (s folded : List ℕ) (f : Folded s folded) (small : length s ≤ 4096)
         ∙ sym (ap (λ n. announced n ++ ((p - 0 + 2) ∷ numbersFrom row rows)) (h .0)))
         b
 
-    still-before : (last : ℕ) → Before c last → columnOf last < suc c
+    still-before : (last : ℕ) → RowBefore c last → rowColumn last < suc c
     still-before last b =
         ⊎-elim
-        (λ (l : columnOf last < c). omega arith)
-        (λ (h : (c ≡ 0) × (last ≡ 0)). subst (λ n. columnOf n < suc c) (sym (h .1)) (omega arith))
+        (λ (l : rowColumn last < c). omega arith)
+        (λ (h : (c ≡ 0) × (last ≡ 0)). subst (λ n. rowColumn n < suc c) (sym (h .1)) (omega arith))
         b
 
-    opens : (last p : ℕ) (qs : List Place) → p + length qs ≤ 65536 → Each (In s folded f small base e le he c hc) qs → Before c last → Opens last p qs
+    opens : (last p : ℕ) (qs : List Place) → p + length qs ≤ 65536 → Each (In s folded f small base e le he c hc) qs → RowBefore c last → Opens last p qs
     opens last p [] h i b = record { next = last; before = still-before last b; numbers = λ rest cs q. q }
     opens last p (q ∷ qs) h i b =
         let r = row-is s folded f small base e le he c hc p q (omega arith) (i .0) in
@@ -151,7 +143,7 @@ module _ (s folded : List ℕ) (f : Folded s folded) (small : length s ≤ 4096)
         test = row-kept p q (omega arith) (i .0)
 
         here : same (wordAt (part s base e) q) w ≡ true → Within (rowOf (base + q .start) (base + q .end) c p) (suc p) qs
-            → RowIs folded (rowOf (base + q .start) (base + q .end) c p) (wordAt (part s base e) q) c p → Opens last p (q ∷ qs)
+            → RowWordIs folded (rowOf (base + q .start) (base + q .end) c p) (wordAt (part s base e) q) c p → Opens last p (q ∷ qs)
         here t n r = record {
           next = n .next;
           before = omega (arith, n .column);
@@ -178,12 +170,12 @@ module _ (s folded : List ℕ) (f : Folded s folded) (small : length s ≤ 4096)
         }
 
   -- all columns
-  columns-numbers : (c base last : ℕ) (es : List ℕ) → c + length es ≤ 16 → endsFrom base (length s) es ≡ true → Before c last
+  columns-numbers : (c base last : ℕ) (es : List ℕ) → c + length es ≤ 16 → endsFrom base (length s) es ≡ true → RowBefore c last
       → numbersFrom last (kept folded w (rowsFrom c base s es)) ≡ columnNumbers (columnsFrom c w (cutFrom base s es)) ++ (0 ∷ [])
   unfolding cutFrom
   columns-numbers c base last [] h t b = refl
   columns-numbers c base last (e ∷ es) h t b =
-      let k = ends-told base e (length s) es t in
+      let k = ends-step base e (length s) es t in
       let o = opens base e (k .0) (k .1) c (omega arith) last 0 (places (part s base e)) (few-places s folded f small base e (k .1)) (places-in s folded f small base e (k .0) (k .1) c (omega arith)) b in
       ap (numbersFrom last) (kept-append folded w (columnRows base c (part s base e)) (rowsFrom (suc c) e s es))
       ∙ o .numbers (kept folded w (rowsFrom (suc c) e s es)) (columnsFrom (suc c) w (cutFrom e s es)) (columns-numbers (suc c) e (o .next) es (omega arith) (k .2) (inl (o .before)))

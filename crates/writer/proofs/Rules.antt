@@ -9,7 +9,7 @@ use mir.Val.{SFits}
 use mir.Syntax.{w64}
 use mathlib.Core.Path.{_≡_, refl, sym, ap, subst, _∙_}
 use mathlib.Core.Logic.{_↔_, inl, inr}
-use mathlib.Core.Bool.{Bool, true, false}
+use mathlib.Core.Bool.{true, false}
 use mathlib.Core.List.{List, [], _∷_, _++_}
 use lib.ListN.{length, getD, replicate}
 use lib.Dec.{T, ltb, leb}
@@ -17,15 +17,16 @@ use borrow.Author.Tests.{ltb-true, ltb-false, leb-true, leb-false, lt-ltb, le-lt
 use Rattle.common.specs.Pick.{pick, both, either}
 use Rattle.common.specs.Bytes.{within}
 use Rattle.common.specs.Refusals.{Numbers, numbers, Refusal, FirstDue, Exclusive, roomRefusal}
-use Rattle.common.proofs.Refusals.{first-due-once, exclusive-append, room-exclusive}
+use Rattle.common.proofs.Refusals.{known-by-numbers, first-due-once, exclusive-append, room-exclusive}
 use Rattle.common.proofs.Cases.{bool-case, pick-case, both-left, both-right, both-true, false-not-true}
-use Rattle.tokenizer.specs.Word.{wordsOf, maxWord}
-use Rattle.offsets.specs.Cut.{cuts, Cuts, cut}
+use Rattle.common.specs.Bounds.{maxWord}
+use Rattle.tokenizer.specs.Word.{wordsOf}
+use Rattle.offsets.specs.Cut.{cuts, cut}
 use Rattle.offsets.proofs.Cuts.{cuts-rules, rules-cuts, length-cut}
-use Rattle.document.specs.Document.{StandsAt, documentLeaf}
+use Rattle.document.specs.Document.{documentLeaf}
 use Rattle.writer.specs.declared.Answer.{Answer}
 use Rattle.writer.specs.declared.Answer.the-variants.{Written, Shape, Overlong, Room}
-use Rattle.writer.specs.Answers.{numbersOf, isDocid, docidOf, isDocument, DocumentShape, hasOverlong, overlongRefusals, firstOverlong, IsOverlong, AllShort, Writing, fitted, needOf, refusals, WriteIs, answerOf, held, roomOf, Answers}
+use Rattle.writer.specs.Answers.{numbersOf, isDocid, docidOf, isDocument, DocumentShape, hasOverlong, overlongRefusals, firstOverlong, IsOverlong, AllShort, Writing, fittedAnswer, needOf, refusals, WriteIs, answerOf, held, roomOf, WriteExactly}
 use Rattle.writer.proofs.LeafWriting.{short-before}
 
 -- ---- the shape
@@ -153,13 +154,10 @@ with-numbers Shape = refl
 with-numbers (Overlong c) = refl
 with-numbers (Room n) = refl
 
-numbers-once : (r q : Answer) → numbersOf r ≡ numbersOf q → r ≡ q
-numbers-once r q e = sym (with-numbers r) ∙ ap (λ (m : Numbers). answer-with (m .number) (m .second)) e ∙ with-numbers q
-
 -- ---- the answers
 
 module _ (docid : ℤ) (s es : List ℕ) (room : ℕ) where
-  answers-shape : (DocumentShape docid s es → ⊥) → Answers docid s es room Shape
+  answers-shape : (DocumentShape docid s es → ⊥) → WriteExactly docid s es room Shape
   answers-shape n = record {
     shape = (λ e. n, λ _. refl);
     overlong = λ c. (λ e. absurd (omega (arith, ap (λ (q : Answer). numbersOf q .number) e)), λ k. absurd (n (k .0)));
@@ -168,7 +166,7 @@ module _ (docid : ℤ) (s es : List ℕ) (room : ℕ) where
   }
 
   module _ (h : DocumentShape docid s es) where
-    answers-overlong : firstOverlong (cut s es) < length (cut s es) → Answers docid s es room (Overlong (firstOverlong (cut s es)))
+    answers-overlong : firstOverlong (cut s es) < length (cut s es) → WriteExactly docid s es room (Overlong (firstOverlong (cut s es)))
     answers-overlong l = record {
       shape = (λ e. absurd (omega (arith, ap (λ (q : Answer). numbersOf q .number) e)), λ n. absurd (n h));
       overlong = λ c. (
@@ -183,7 +181,7 @@ module _ (docid : ℤ) (s es : List ℕ) (room : ℕ) where
       not-overlong : (c : ℕ) → IsOverlong (cut s es) c → ⊥
       not-overlong c o = let k = is-overlong (cut s es) c o in omega (arith, k .0, k .1)
 
-      answers-room : room < needOf docid s es → Answers docid s es room (Room (needOf docid s es))
+      answers-room : room < needOf docid s es → WriteExactly docid s es room (Room (needOf docid s es))
       answers-room l = record {
         shape = (λ e. absurd (omega (arith, ap (λ (q : Answer). numbersOf q .number) e)), λ n. absurd (n h));
         overlong = λ c. (λ e. absurd (omega (arith, ap (λ (q : Answer). numbersOf q .number) e)), λ k. absurd (not-overlong c (k .1)));
@@ -191,7 +189,7 @@ module _ (docid : ℤ) (s es : List ℕ) (room : ℕ) where
         written = λ m. (λ e. absurd (omega (arith, ap (λ (q : Answer). numbersOf q .number) e)), λ k. absurd (omega (arith, k .2, k .3)));
       }
 
-      answers-written : needOf docid s es ≤ room → Answers docid s es room (Written (needOf docid s es))
+      answers-written : needOf docid s es ≤ room → WriteExactly docid s es room (Written (needOf docid s es))
       answers-written l = record {
         shape = (λ e. absurd (omega (arith, ap (λ (q : Answer). numbersOf q .number) e)), λ n. absurd (n h));
         overlong = λ c. (λ e. absurd (omega (arith, ap (λ (q : Answer). numbersOf q .number) e)), λ k. absurd (not-overlong c (k .1)));
@@ -200,7 +198,7 @@ module _ (docid : ℤ) (s es : List ℕ) (room : ℕ) where
       }
 
   -- the answer says which rule holds
-  pub answers : Answers docid s es room (answerOf docid s es room)
+  pub answers : WriteExactly docid s es room (answerOf docid s es room)
   answers =
       let n = length-cut s es in
       bool-case (isDocument docid s es)
@@ -216,7 +214,7 @@ module _ (docid : ℤ) (s es : List ℕ) (room : ℕ) where
 -- ---- the first refusal that is due
 
 module _ (fs : List Refusal) (accepted : Numbers) where
-  -- no column has a long word: the refusals behind decide
+  -- no column has a long word: the refusals after decide
   none-long : (k : ℕ) (ts : List (List ℕ)) (m : Numbers) → firstOverlong ts ≡ length ts → FirstDue fs accepted m → FirstDue (overlongRefusals k ts ++ fs) accepted m
   none-long k [] m e d = d
   none-long k (t ∷ ts) m e d =
@@ -263,7 +261,7 @@ module _ (docid : ℤ) (s es : List ℕ) (room : ℕ) where
   -- and no other answer is
   pub write-once : (a : Answer) → WriteIs docid s es room a → answerOf docid s es room ≡ a
   write-once a c =
-      numbers-once (answerOf docid s es room) a (first-due-once (refusals docid s es room) refusals-exclusive (numbers 0 (needOf docid s es)) _ _ write-is c)
+      known-by-numbers numbersOf answer-with with-numbers (answerOf docid s es room) a (first-due-once (refusals docid s es room) refusals-exclusive (numbers 0 (needOf docid s es)) _ _ write-is c)
 
 -- ---- what the function returns
 
@@ -321,11 +319,11 @@ module _ (docid : ℤ) (s es : List ℕ) (size : ℕ) where
           }
 
       pub kept-leaf : (d : ℕ) → d ≡ docidOf docid → (m : ℕ) → m ≡ size → (r : Answer) (after : List ℕ)
-          → (r ≡ fitted (length (documentLeaf d (cut s es))) m) × (after ≡ held m (documentLeaf d (cut s es)) r) → Promise r after
+          → (r ≡ fittedAnswer (length (documentLeaf d (cut s es))) m) × (after ≡ held m (documentLeaf d (cut s es)) r) → Promise r after
       kept-leaf d q m k r after w =
           kept r after
           (w .0
-          ∙ ap (λ x. fitted (length (documentLeaf x (cut s es))) m) q
-          ∙ ap (fitted (needOf docid s es)) k
+          ∙ ap (λ x. fittedAnswer (length (documentLeaf x (cut s es))) m) q
+          ∙ ap (fittedAnswer (needOf docid s es)) k
           ∙ sym (rw (t, le-ltb (firstOverlong (cut s es)) (length es) (omega arith)) refl))
           (w .1 ∙ ap (λ x. held m (documentLeaf x (cut s es)) r) q ∙ ap (λ x. held x (documentLeaf (docidOf docid) (cut s es)) r) k)

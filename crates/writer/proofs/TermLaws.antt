@@ -1,23 +1,23 @@
--- The bytes of terms: a word behind another with its list, and run after run of sorted rows.
-use Prim.Native.Nat.{ℕ, zero, suc, _+_, _-_, _*_, _^_, _≤_, _<_}
+-- The bytes of terms: a word after another with its list, and run after run of sorted rows.
+use Prim.Native.Nat.{ℕ, zero, suc, _+_, _-_, _*_, _≤_, _<_}
 use native.Mathlib.Nat.{not-suc-le-zero}
-use native.Mathlib.Numerals.{add-one}
 use native.Mathlib.Omega.{arith}
 use mathlib.Core.Path.{_≡_, refl, sym, ap, subst, _∙_}
-use mathlib.Core.Bool.{Bool, true, false}
-use mathlib.Core.List.{List, [], _∷_, _++_, append-assoc, append-nil}
+use mathlib.Core.Bool.{true}
+use mathlib.Core.List.{List, [], _∷_, _++_}
 use lib.ListN.{length, getD, take, drop, length-append, length-take, length-drop, drop-of-length-le}
 use lib.Seq.{drop-cons, drop-drop, take-all, getD-drop}
 use Rattle.common.specs.Pick.{pick}
 use Rattle.common.specs.Bytes.{span}
-use Rattle.common.proofs.Cases.{bool-case, false-not-true}
-use Rattle.common.proofs.Lists.{same-true, same-refl, span-most}
+use Rattle.common.proofs.Cases.{bool-case}
+use Rattle.common.proofs.Same.{same-true, same-refl}
+use Rattle.common.proofs.Runs.{span-most}
 use Rattle.varint.specs.Varint.{encode}
 use Rattle.varint.proofs.Laws.{encode-most}
 use Rattle.leaf.specs.Leaf.{shared, sized}
-use Rattle.lookup.proofs.Ordering.{shared-most}
-use Rattle.writer.specs.Rows.{startOf, endOf, keyOf, wordOf, Inside, AllInside, sameWord}
-use Rattle.writer.specs.Stored.{listBytes, Rises, wordBytes, termOf, runOf, termsFrom, termsOf, Grouped, Table}
+use Rattle.leaf.proofs.Words.{shared-most}
+use Rattle.writer.specs.Rows.{rowWord, RowInside, AllInside, sameWord}
+use Rattle.writer.specs.Stored.{listBytes, Rises, wordBytes, termOf, runOf, termsFrom, Grouped, Table}
 use Rattle.writer.proofs.Lists.{list-most}
 
 -- ---- a word
@@ -81,20 +81,20 @@ module _ (before w : List ℕ) (docid : ℕ) (rows : List ℕ) where
 
 module _ (folded : List ℕ) where
   -- rows of one word stand in the order of the document
-  run-rises-behind : (w : List ℕ) (last : ℕ) (rows : List ℕ) → wordOf folded last ≡ w → Grouped folded last rows → Rises last (take (span (sameWord folded w) rows) rows)
+  run-rises-behind : (w : List ℕ) (last : ℕ) (rows : List ℕ) → rowWord folded last ≡ w → Grouped folded last rows → Rises last (take (span (sameWord folded w) rows) rows)
   unfolding span
   run-rises-behind w last [] e g = tt
   run-rises-behind w last (r ∷ rows) e g =
       bool-case (sameWord folded w r)
-      (λ t. let q = same-true w (wordOf folded r) t in
+      (λ t. let q = same-true w (rowWord folded r) t in
       subst (λ b. Rises last (take (pick b (suc (span (sameWord folded w) rows)) 0) (r ∷ rows))) (sym t)
       (g .0 (e ∙ q), run-rises-behind w r rows (sym q) (g .1)))
       (λ t. subst (λ b. Rises last (take (pick b (suc (span (sameWord folded w) rows)) 0) (r ∷ rows))) (sym t) tt)
 
-  first-same : (r : ℕ) → sameWord folded (wordOf folded r) r ≡ true
-  first-same r = same-refl (wordOf folded r)
+  first-same : (r : ℕ) → sameWord folded (rowWord folded r) r ≡ true
+  first-same r = same-refl (rowWord folded r)
 
-  pub run-cons : (r : ℕ) (rows : List ℕ) → runOf folded (r ∷ rows) ≡ suc (span (sameWord folded (wordOf folded r)) rows)
+  pub run-cons : (r : ℕ) (rows : List ℕ) → runOf folded (r ∷ rows) ≡ suc (span (sameWord folded (rowWord folded r)) rows)
   unfolding span
   run-cons r rows = rw (first-same r) refl
 
@@ -102,7 +102,7 @@ module _ (folded : List ℕ) where
   run-rises [] g = tt
   run-rises (r ∷ rows) g =
       subst (λ n. Rises 0 (take n (r ∷ rows))) (sym (run-cons r rows))
-      (omega arith, run-rises-behind (wordOf folded r) r rows refl (g .1))
+      (omega arith, run-rises-behind (rowWord folded r) r rows refl (g .1))
 
   run-some : (rows : List ℕ) → 0 < length rows → 0 < runOf folded rows
   run-some [] h = absurd (not-suc-le-zero h)
@@ -110,7 +110,7 @@ module _ (folded : List ℕ) where
 
   run-most : (rows : List ℕ) → runOf folded rows ≤ length rows
   run-most [] = omega arith
-  run-most (r ∷ rows) = omega (arith, run-cons r rows, span-most (sameWord folded (wordOf folded r)) rows)
+  run-most (r ∷ rows) = omega (arith, run-cons r rows, span-most (sameWord folded (rowWord folded r)) rows)
 
   grouped-first : (last : ℕ) (rows : List ℕ) → Grouped folded last rows → Grouped folded 0 rows
   grouped-first last [] g = tt
@@ -123,7 +123,7 @@ module _ (folded : List ℕ) where
 
 -- ---- all terms
 
-pub word-most : (folded : List ℕ) (row : ℕ) → length (wordOf folded row) ≤ length folded
+pub word-most : (folded : List ℕ) (row : ℕ) → length (rowWord folded row) ≤ length folded
 word-most folded row = simp (length-take, length-drop) (omega arith)
 
 pub terms-nil : (most : ℕ) (folded : List ℕ) (docid last : ℕ) → termsFrom most folded docid last [] ≡ []
@@ -133,7 +133,7 @@ terms-nil (suc most) folded docid last = refl
 
 pub terms-cons : (most : ℕ) (folded : List ℕ) (docid last r : ℕ) (rows : List ℕ)
     → termsFrom (suc most) folded docid last (r ∷ rows)
-    ≡ termOf (wordOf folded last) (wordOf folded r) docid (take (runOf folded (r ∷ rows)) (r ∷ rows)) ++ termsFrom most folded docid r (drop (runOf folded (r ∷ rows)) (r ∷ rows))
+    ≡ termOf (rowWord folded last) (rowWord folded r) docid (take (runOf folded (r ∷ rows)) (r ∷ rows)) ++ termsFrom most folded docid r (drop (runOf folded (r ∷ rows)) (r ∷ rows))
 unfolding termsFrom
 terms-cons most folded docid last r rows = refl
 
@@ -146,8 +146,8 @@ terms-most (suc most) folded docid last (r ∷ rows) h =
     let n = runOf folded (r ∷ rows) in
     omega (
       arith,
-      length-append (termOf (wordOf folded last) (wordOf folded r) docid (take n (r ∷ rows))) (termsFrom most folded docid r (drop n (r ∷ rows))),
-      term-most (wordOf folded last) (wordOf folded r) docid (take n (r ∷ rows)) (omega (arith, word-most folded r)),
+      length-append (termOf (rowWord folded last) (rowWord folded r) docid (take n (r ∷ rows))) (termsFrom most folded docid r (drop n (r ∷ rows))),
+      term-most (rowWord folded last) (rowWord folded r) docid (take n (r ∷ rows)) (omega (arith, word-most folded r)),
       terms-most most folded docid r (drop n (r ∷ rows)) h,
       length-take n (r ∷ rows),
       length-drop n (r ∷ rows),
@@ -161,7 +161,7 @@ terms-most (suc most) folded docid last (r ∷ rows) h =
 pub record AtRun (folded rows : List ℕ) (last i most : ℕ) : Type 0 where
   pub enough : length rows ≤ i + most
   pub grouped : Grouped folded 0 (drop i rows)
-  pub last-inside : Inside (length folded) last
+  pub last-inside : RowInside (length folded) last
 
 pub runs-start : (folded rows : List ℕ) → Table folded rows → AtRun folded rows 0 0 (length rows)
 runs-start folded rows t = record {
@@ -183,12 +183,12 @@ module _ (folded rows : List ℕ) (t : Table folded rows) (last i most : ℕ) (a
     run-inside = subst (AllInside (length folded)) (sym lent-rows) inside
       where
         inside : AllInside (length folded) (drop i rows)
-        inside j k = subst (Inside (length folded)) (sym (getD-drop i rows j 0)) (t .inside (i + j) (omega (arith, length-drop i rows)))
+        inside j k = subst (RowInside (length folded)) (sym (getD-drop i rows j 0)) (t .inside (i + j) (omega (arith, length-drop i rows)))
 
     here : drop i rows ≡ getD rows i 0 ∷ drop (suc i) rows
     here = drop-cons rows i 0 h
 
-    module _ (w : List ℕ) (n : ℕ) (e : w ≡ wordOf folded (getD rows i 0)) (q : n ≡ span (sameWord folded w) (take (length rows - i) (drop i rows))) where
+    module _ (w : List ℕ) (n : ℕ) (e : w ≡ rowWord folded (getD rows i 0)) (q : n ≡ span (sameWord folded w) (take (length rows - i) (drop i rows))) where
       pub run-is : n ≡ runOf folded (drop i rows)
       run-is =
           q
@@ -217,10 +217,10 @@ module _ (folded rows : List ℕ) (t : Table folded rows) (last i most : ℕ) (a
             last-inside = t .inside i h;
           }
 
-      -- the run's term, and the terms behind it
+      -- the run's term, and the terms after it
       pub runs-term : (docid next : ℕ) → next ≡ i + n
           → termsFrom most folded docid last (drop i rows)
-          ≡ termOf (wordOf folded last) w docid (take (next - i) (drop i rows)) ++ termsFrom (most - 1) folded docid (getD rows i 0) (drop next rows)
+          ≡ termOf (rowWord folded last) w docid (take (next - i) (drop i rows)) ++ termsFrom (most - 1) folded docid (getD rows i 0) (drop next rows)
       runs-term docid next s =
           let b : most ≡ suc (most - 1) = omega (arith, a .enough) in
           let d : runOf folded (getD rows i 0 ∷ drop (suc i) rows) ≡ next - i = omega (arith, run-is, ap (runOf folded) here) in
@@ -228,7 +228,7 @@ module _ (folded rows : List ℕ) (t : Table folded rows) (last i most : ℕ) (a
           ap (λ k. termsFrom k folded docid last (drop i rows)) b
           ∙ ap (termsFrom (suc (most - 1)) folded docid last) here
           ∙ terms-cons (most - 1) folded docid last (getD rows i 0) (drop (suc i) rows)
-          ∙ ap (λ k. termOf (wordOf folded last) (wordOf folded (getD rows i 0)) docid (take k (getD rows i 0 ∷ drop (suc i) rows)) ++ termsFrom (most - 1) folded docid (getD rows i 0) (drop k (getD rows i 0 ∷ drop (suc i) rows))) d
-          ∙ ap (λ l. termOf (wordOf folded last) (wordOf folded (getD rows i 0)) docid (take (next - i) l) ++ termsFrom (most - 1) folded docid (getD rows i 0) (drop (next - i) l)) (sym here)
-          ∙ ap (λ x. termOf (wordOf folded last) x docid (take (next - i) (drop i rows)) ++ termsFrom (most - 1) folded docid (getD rows i 0) (drop (next - i) (drop i rows))) (sym e)
-          ∙ ap (λ l. termOf (wordOf folded last) w docid (take (next - i) (drop i rows)) ++ termsFrom (most - 1) folded docid (getD rows i 0) l) (drop-drop (next - i) i rows ∙ ap (λ k. drop k rows) f)
+          ∙ ap (λ k. termOf (rowWord folded last) (rowWord folded (getD rows i 0)) docid (take k (getD rows i 0 ∷ drop (suc i) rows)) ++ termsFrom (most - 1) folded docid (getD rows i 0) (drop k (getD rows i 0 ∷ drop (suc i) rows))) d
+          ∙ ap (λ l. termOf (rowWord folded last) (rowWord folded (getD rows i 0)) docid (take (next - i) l) ++ termsFrom (most - 1) folded docid (getD rows i 0) (drop (next - i) l)) (sym here)
+          ∙ ap (λ x. termOf (rowWord folded last) x docid (take (next - i) (drop i rows)) ++ termsFrom (most - 1) folded docid (getD rows i 0) (drop (next - i) (drop i rows))) (sym e)
+          ∙ ap (λ l. termOf (rowWord folded last) w docid (take (next - i) (drop i rows)) ++ termsFrom (most - 1) folded docid (getD rows i 0) l) (drop-drop (next - i) i rows ∙ ap (λ k. drop k rows) f)

@@ -1,12 +1,11 @@
 -- How bytes come into a room one part after the other: what stands at its front so far, and the rest as it was.
 use Prim.Native.Nat.{ℕ, _+_, _-_, _≤_}
 use native.Mathlib.Omega.{arith}
-use mathlib.Core.Path.{_≡_, sym, ap, subst, _∙_}
+use mathlib.Core.Path.{_≡_, sym, ap, _∙_}
 use mathlib.Core.List.{List, _++_}
 use lib.ListN.{length, take, drop, length-append, length-take, length-drop}
-use lib.Seq.{drop-drop, drop-append-add}
 use Rattle.common.specs.Bytes.{over}
-use Rattle.writer.proofs.General.{over-length, part-back}
+use Rattle.common.proofs.Rooms.{over-length, over-lent, over-over}
 
 -- `w` stands at the front of the room and ends at `at`
 pub record Wrote (room now w : List ℕ) (at : ℕ) : Type 0 where
@@ -34,19 +33,11 @@ module _ {room now w : List ℕ} {at : ℕ} (k : Wrote room now w at) where
       → Wrote room (take at now ++ (back ++ drop (length now - at) (drop at now))) (w ++ v) (at + n)
   wrote-more v back n h e b = record {
     ends = omega (arith, k .ends, length-append w v);
-    is = part-back now room w v back at h (k .ends) (k .is) b;
+    is = over-lent now room w v back at h (k .ends) (k .is) b;
     fits = omega (arith, length-append w v);
   }
 
 -- ---- a writer that begins with one call and goes on in a loop
-
-pub over-over : (w v room : List ℕ) → length v ≤ length w → length v ≤ length room → over w (over v room) ≡ over w room
-over-over w v room h k =
-    let n : length v + (length w - length v) ≡ length w = omega arith in
-    ap (λ l. w ++ l)
-    (subst (λ j. drop j (v ++ drop (length v) room) ≡ drop (length w - length v) (drop (length v) room)) n (drop-append-add v (drop (length v) room) (length w - length v))
-    ∙ drop-drop (length w - length v) (length v) room
-    ∙ ap (λ j. drop j room) n)
 
 -- what stands there is written as well over the room as it is now
 pub wrote-again : {room now w : List ℕ} {at : ℕ} → Wrote room now w at → Wrote now now w at

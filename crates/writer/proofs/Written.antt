@@ -1,4 +1,4 @@
--- What an accepted answer means: the leaf stands at the front of the room and zeros behind it (`written-leaf`), the
+-- What an accepted answer means: the leaf stands at the front of the room and zeros after it (`written-leaf`), the
 -- reader accepts it for that column count (`written-accepted`), and 0 bytes are written exactly where no column has a
 -- word (`written-none`). Proofs/Reading of crate document says the rest of such a leaf. And when an answer is accepted
 -- (`accepted-exactly`), and what each refusal leaves (`refused-shape`, `refused-overlong`, `refused-room`).
@@ -15,7 +15,7 @@ use Rattle.offsets.proofs.Cuts.{length-cut, cut-joined}
 use Rattle.doclist.specs.Doclist.{docidLimit}
 use Rattle.leaf.specs.Answers.{checkLeaf}
 use Rattle.leaf.specs.declared.LeafCheck.the-variants.{Accepted}
-use Rattle.document.specs.Document.{StandsAt, documentTerms, documentLeaf, Writable}
+use Rattle.document.specs.Document.{HasWordAt, documentTerms, documentLeaf, Writable}
 use Rattle.document.proofs.Reading.{leaf-accepted, no-word}
 use Rattle.writer.specs.declared.Answer.{Answer}
 use Rattle.writer.specs.declared.Answer.the-variants.{Written, Shape, Overlong, Room}
@@ -49,7 +49,7 @@ module _ (docid : ℤ) (s es : List ℕ) (room n : ℕ) (w : answerOf docid s es
   written-zeros = ap (drop n) written-room ∙ drop-at (documentLeaf (docidOf docid) (cut s es)) (replicate (room - n) 0) n (sym (rules .2))
 
   -- 0 bytes exactly where there is no word
-  pub written-none : (n ≡ 0) ↔ ((v : List ℕ) (c p : ℕ) → StandsAt (cut s es) v c p → ⊥)
+  pub written-none : (n ≡ 0) ↔ ((v : List ℕ) (c p : ℕ) → HasWordAt (cut s es) v c p → ⊥)
   written-none =
       let l = no-word (docidOf docid) (cut s es) in
       (λ e. l .0 (sym (rules .2) ∙ e), λ f. rules .2 ∙ l .1 f)

@@ -1,6 +1,6 @@
 -- What the writer answers, and what its room holds then (document 01, "Numbers of the answers"). The checks 1, 5 and 4
 -- come in this order; every refusal leaves the room all zeros, and acceptance the leaf and then zeros.
-use Prim.Native.Nat.{ℕ, zero, suc, _-_, _^_, _≤_, _<_}
+use Prim.Native.Nat.{ℕ, suc, _-_, _^_, _≤_, _<_}
 use lib.IntN.{ℤ, pos, negsuc}
 use mathlib.Core.Path.{_≡_}
 use mathlib.Core.Logic.{_↔_}
@@ -11,9 +11,10 @@ use lib.Dec.{ltb, leb}
 use Rattle.common.specs.Pick.{pick, both, either}
 use Rattle.common.specs.Bytes.{within}
 use Rattle.common.specs.Refusals.{Numbers, numbers, Refusal, FirstDue, shapeRefusal, roomRefusal}
-use Rattle.tokenizer.specs.Word.{wordsOf, maxWord}
+use Rattle.common.specs.Bounds.{maxWord, maxColumns}
+use Rattle.tokenizer.specs.Word.{wordsOf}
 use Rattle.offsets.specs.Cut.{cuts, Cuts, cut}
-use Rattle.document.specs.Document.{StandsAt, documentLeaf, maxColumns, maxDocument}
+use Rattle.document.specs.Document.{HasWordAt, documentLeaf, maxDocument}
 use Rattle.writer.specs.declared.Answer.{Answer}
 use Rattle.writer.specs.declared.Answer.the-variants.{Written, Shape, Overlong, Room}
 
@@ -79,13 +80,13 @@ firstOverlong (t ∷ ts) = pick (hasOverlong (wordsOf t)) 0 (suc (firstOverlong 
 pub record IsOverlong (texts : List (List ℕ)) (c : ℕ) : Type 0 where
   pub word : List ℕ
   pub position : ℕ
-  pub stands : StandsAt texts word c position
+  pub stands : HasWordAt texts word c position
   pub long : maxWord < length word
-  pub first : (w : List ℕ) (b p : ℕ) → b < c → StandsAt texts w b p → length w ≤ maxWord
+  pub first : (w : List ℕ) (b p : ℕ) → b < c → HasWordAt texts w b p → length w ≤ maxWord
 
 -- no column has one
 abbrev pub AllShort : List (List ℕ) → Type 0
-AllShort texts = (w : List ℕ) (c p : ℕ) → StandsAt texts w c p → length w ≤ maxWord
+AllShort texts = (w : List ℕ) (c p : ℕ) → HasWordAt texts w c p → length w ≤ maxWord
 
 -- what writing the leaf asks: the shape, the docid's range, and no word over 64 bytes
 pub record Writing (docid : ℕ) (s es : List ℕ) : Type 0 where
@@ -98,8 +99,8 @@ pub record Writing (docid : ℕ) (s es : List ℕ) : Type 0 where
 
 -- ---- 4: too little room
 
-abbrev pub fitted : ℕ → ℕ → Answer
-fitted need room = pick (leb need room) (Written need) (Room need)
+abbrev pub fittedAnswer : ℕ → ℕ → Answer
+fittedAnswer need room = pick (leb need room) (Written need) (Room need)
 
 -- ---- the claim, with a room of `room` bytes
 
@@ -121,7 +122,7 @@ abbrev pub answerOf : ℤ → List ℕ → List ℕ → ℕ → Answer
 answerOf docid s es room =
     pick (isDocument docid s es)
     (pick (ltb (firstOverlong (cut s es)) (length es)) (Overlong (firstOverlong (cut s es)))
-    (fitted (needOf docid s es) room))
+    (fittedAnswer (needOf docid s es) room))
     Shape
 
 -- what the room holds after an answer
@@ -136,7 +137,7 @@ roomOf docid s es room = held room (documentLeaf (docidOf docid) (cut s es)) (an
 
 -- ---- the same, answer by answer
 
-pub record Answers (docid : ℤ) (s es : List ℕ) (room : ℕ) (r : Answer) : Type 0 where
+pub record WriteExactly (docid : ℤ) (s es : List ℕ) (room : ℕ) (r : Answer) : Type 0 where
   pub shape : (r ≡ Shape) ↔ (DocumentShape docid s es → ⊥)
   pub overlong : (c : ℕ) → (r ≡ Overlong c) ↔ (DocumentShape docid s es × IsOverlong (cut s es) c)
   pub no-room : (n : ℕ) → (r ≡ Room n) ↔ (DocumentShape docid s es × AllShort (cut s es) × (n ≡ needOf docid s es) × (room < n))

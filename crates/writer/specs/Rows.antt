@@ -8,9 +8,9 @@ use mathlib.Core.List.{List, [], _∷_, _++_}
 use lib.ListN.{length, getD, take}
 use Rattle.common.specs.Pick.{pick}
 use Rattle.common.specs.Bytes.{part, same}
+use Rattle.leaf.specs.Leaf.{isBefore}
 use Rattle.tokenizer.specs.Word.{Place, places, wordsOf}
 use Rattle.offsets.specs.Cut.{Cuts, cut}
-use Rattle.document.specs.Document.{earlier}
 use Rattle.writer.specs.Answers.{hasOverlong}
 
 -- ---- a row
@@ -18,33 +18,33 @@ use Rattle.writer.specs.Answers.{hasOverlong}
 abbrev pub rowOf : ℕ → ℕ → ℕ → ℕ → ℕ
 rowOf start end column position = ((start * 65536 + end) * 65536 + column) * 65536 + position
 
-abbrev pub startOf : ℕ → ℕ
-startOf row = row / 65536 / 65536 / 65536
+abbrev pub rowStart : ℕ → ℕ
+rowStart row = row / 65536 / 65536 / 65536
 
 abbrev pub endOf : ℕ → ℕ
 endOf row = row / 65536 / 65536 % 65536
 
-abbrev pub columnOf : ℕ → ℕ
-columnOf row = row / 65536 % 65536
+abbrev pub rowColumn : ℕ → ℕ
+rowColumn row = row / 65536 % 65536
 
-abbrev pub positionOf : ℕ → ℕ
-positionOf row = row % 65536
+abbrev pub rowPosition : ℕ → ℕ
+rowPosition row = row % 65536
 
 -- column and position together: their order is that of the document
-abbrev pub keyOf : ℕ → ℕ
-keyOf row = row % 4294967296
+abbrev pub rowKey : ℕ → ℕ
+rowKey row = row % 4294967296
 
 -- the row's word in the folded texts; that of row 0 is empty
-abbrev pub wordOf : List ℕ → ℕ → List ℕ
-wordOf folded row = part folded (startOf row) (endOf row)
+abbrev pub rowWord : List ℕ → ℕ → List ℕ
+rowWord folded row = part folded (rowStart row) (endOf row)
 
 -- the word stands in the first `n` bytes
-pub record Inside (n row : ℕ) : Type 0 where
-  pub begins : startOf row ≤ endOf row
+pub record RowInside (n row : ℕ) : Type 0 where
+  pub begins : rowStart row ≤ endOf row
   pub ends : endOf row ≤ n
 
 abbrev pub AllInside : ℕ → List ℕ → Type 0
-AllInside n rows = (i : ℕ) → i < length rows → Inside n (getD rows i 0)
+AllInside n rows = (i : ℕ) → i < length rows → RowInside n (getD rows i 0)
 
 -- ---- the rows of a document, in its order
 
@@ -68,12 +68,12 @@ documentRows s es = rowsFrom 0 0 s es
 
 -- a word does not come before the row's word
 abbrev pub notBefore : List ℕ → List ℕ → ℕ → Bool
-notBefore folded w row = not (earlier w (wordOf folded row))
+notBefore folded w row = not (isBefore w (rowWord folded row))
 
--- a row goes behind those of its own word
+-- a row goes after those of its own word
 abbrev pub insertRow : List ℕ → ℕ → List ℕ → List ℕ
 insertRow folded row [] = row ∷ []
-insertRow folded row (r ∷ rows) = pick (notBefore folded (wordOf folded row) r) (r ∷ insertRow folded row rows) (row ∷ r ∷ rows)
+insertRow folded row (r ∷ rows) = pick (notBefore folded (rowWord folded row) r) (r ∷ insertRow folded row rows) (row ∷ r ∷ rows)
 
 -- rows one after the other
 abbrev pub insertRows : List ℕ → List ℕ → List ℕ → List ℕ
@@ -117,4 +117,4 @@ pub record Gathered (s es folded after : List ℕ) (count : ℕ) : Type 0 where
 
 -- the row's word is `w`
 abbrev pub sameWord : List ℕ → List ℕ → ℕ → Bool
-sameWord folded w row = same w (wordOf folded row)
+sameWord folded w row = same w (rowWord folded row)

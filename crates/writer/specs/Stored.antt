@@ -1,6 +1,6 @@
 -- What the writer stores of sorted rows, number by number: a run of rows with one word becomes a term. The laws tie it to
 -- a document's terms.
-use Prim.Native.Nat.{ℕ, zero, suc, _+_, _-_, _≤_, _<_}
+use Prim.Native.Nat.{ℕ, zero, suc, _+_, _-_, _≤_}
 use mathlib.Core.Path.{_≡_}
 use mathlib.Core.List.{List, [], _∷_, _++_}
 use lib.ListN.{length, take, drop}
@@ -10,14 +10,14 @@ use Rattle.common.specs.Bytes.{span}
 use Rattle.varint.specs.Varint.{encode}
 use Rattle.doclist.specs.Doclist.{encodeAll}
 use Rattle.leaf.specs.Leaf.{shared, sized}
-use Rattle.writer.specs.Rows.{AllInside, columnOf, positionOf, keyOf, wordOf, sameWord}
+use Rattle.writer.specs.Rows.{AllInside, rowColumn, rowPosition, rowKey, rowWord, sameWord}
 
 -- ---- a posting list
 
--- the numbers of a row behind the row `last`, which is 0 for the first
+-- the numbers of a row after the row `last`, which is 0 for the first
 abbrev pub rowNumbers : ℕ → ℕ → List ℕ
 rowNumbers last row =
-    pick (eqb (columnOf row) (columnOf last)) ((positionOf row - positionOf last + 2) ∷ []) (1 ∷ columnOf row ∷ (positionOf row + 2) ∷ [])
+    pick (eqb (rowColumn row) (rowColumn last)) ((rowPosition row - rowPosition last + 2) ∷ []) (1 ∷ rowColumn row ∷ (rowPosition row + 2) ∷ [])
 
 -- of rows, and the closing 0
 abbrev pub numbersFrom : ℕ → List ℕ → List ℕ
@@ -30,29 +30,29 @@ listBytes docid rows = encodeAll (docid ∷ numbersFrom 0 rows)
 -- rows in the order of the document
 abbrev pub Rises : ℕ → List ℕ → Type 0
 Rises last [] = Unit {0}
-Rises last (r ∷ rows) = (keyOf last ≤ keyOf r) × Rises r rows
+Rises last (r ∷ rows) = (rowKey last ≤ rowKey r) × Rises r rows
 
 -- ---- terms
 
--- a word behind another: the length of the prefix that they share, and the suffix behind its length
+-- a word after another: the length of the prefix that they share, and the suffix after its length
 abbrev pub wordBytes : List ℕ → List ℕ → List ℕ
 wordBytes before w = encode (shared before w) ++ sized (drop (shared before w) w)
 
--- and its posting list behind its length
+-- and its posting list after its length
 abbrev pub termOf : List ℕ → List ℕ → ℕ → List ℕ → List ℕ
 termOf before w docid rows = wordBytes before w ++ sized (listBytes docid rows)
 
 -- how many rows from the first on have its word
 abbrev pub runOf : List ℕ → List ℕ → ℕ
 runOf folded [] = 0
-runOf folded (r ∷ rows) = span (sameWord folded (wordOf folded r)) (r ∷ rows)
+runOf folded (r ∷ rows) = span (sameWord folded (rowWord folded r)) (r ∷ rows)
 
--- the terms of at most `most` runs, behind the word of the row `last`, which is 0 for the first
+-- the terms of at most `most` runs, after the word of the row `last`, which is 0 for the first
 unfoldable pub termsFrom : ℕ → List ℕ → ℕ → ℕ → List ℕ → List ℕ
 termsFrom zero folded docid last rows = []
 termsFrom (suc most) folded docid last [] = []
 termsFrom (suc most) folded docid last (r ∷ rows) =
-    termOf (wordOf folded last) (wordOf folded r) docid (take (runOf folded (r ∷ rows)) (r ∷ rows))
+    termOf (rowWord folded last) (rowWord folded r) docid (take (runOf folded (r ∷ rows)) (r ∷ rows))
     ++ termsFrom most folded docid r (drop (runOf folded (r ∷ rows)) (r ∷ rows))
 
 abbrev pub termsOf : List ℕ → ℕ → List ℕ → List ℕ
@@ -61,7 +61,7 @@ termsOf folded docid rows = termsFrom (length rows) folded docid 0 rows
 -- rows with one word stand in the order of the document
 abbrev pub Grouped : List ℕ → ℕ → List ℕ → Type 0
 Grouped folded last [] = Unit {0}
-Grouped folded last (r ∷ rows) = (wordOf folded last ≡ wordOf folded r → keyOf last ≤ keyOf r) × Grouped folded r rows
+Grouped folded last (r ∷ rows) = (rowWord folded last ≡ rowWord folded r → rowKey last ≤ rowKey r) × Grouped folded r rows
 
 -- what the writers ask of the folded texts and their rows
 pub record Table (folded rows : List ℕ) : Type 0 where

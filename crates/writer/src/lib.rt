@@ -12,7 +12,7 @@ ghost use lib.ListN.{length, replicate};
 ghost use Rattle.tokenizer.specs.Word.{wordsOf};
 ghost use Rattle.offsets.specs.Cut.{cut};
 ghost use Rattle.document.specs.Document.{documentLeaf};
-ghost use Rattle.writer.specs.Answers.{isDocument, hasOverlong, firstOverlong, Writing, fitted, WriteIs, answerOf, held, roomOf};
+ghost use Rattle.writer.specs.Answers.{isDocument, hasOverlong, firstOverlong, Writing, fittedAnswer, WriteIs, answerOf, held, roomOf};
 
 // A document has at most 4,096 bytes over all columns; a word takes at least one, so there are no more words.
 pub const MAX_DOCUMENT: usize = 4096;
@@ -50,7 +50,7 @@ fn is_document(docid: i64, texts: &[u8], ends: &[u32]) -> bool
     if ends.len() == 0 {
         return false;
     }
-    if offsets::MAX_COLUMNS < ends.len() {
+    if common::MAX_COLUMNS < ends.len() {
         return false;
     }
     if MAX_DOCUMENT < texts.len() {
@@ -97,7 +97,7 @@ fn first_overlong(texts: &[u8], ends: &[u32]) -> usize
 // Writes the leaf of a document into a room of zeros.
 fn write_leaf(docid: u64, texts: &[u8], ends: &[u32], room: &mut [u8]) -> Answer
     requires { ⌜ Writing docid (now texts) (now ends) × (now room ≡ replicate (length (now room)) 0) ⌝ }
-    ensures { λ r. ⌜ r ≡ fitted (length (documentLeaf docid (cut (now (texts .entry)) (now (ends .entry))))) (length (now (room .entry))) ⌝ }
+    ensures { λ r. ⌜ r ≡ fittedAnswer (length (documentLeaf docid (cut (now (texts .entry)) (now (ends .entry))))) (length (now (room .entry))) ⌝ }
     ensures { λ r. ⌜ now (room .exit) ≡ held (length (now (room .entry))) (documentLeaf docid (cut (now (texts .entry)) (now (ends .entry)))) r ⌝ }
 {
     let mut folded = [0u8; 4096];
@@ -113,7 +113,7 @@ fn write_leaf(docid: u64, texts: &[u8], ends: &[u32], room: &mut [u8]) -> Answer
 }
 
 // Writes the leaf for one document: a docid, and the texts of its columns cut by their ends. The room then holds the leaf
-// and zeros behind it; after a refusal it holds zeros alone.
+// and zeros after it; after a refusal it holds zeros alone.
 pub fn write(docid: i64, texts: &[u8], ends: &[u32], room: &mut [u8]) -> Answer
     ensures answer { λ r. ⌜ r ≡ answerOf docid (now (texts .entry)) (now (ends .entry)) (length (now (room .entry))) ⌝ }
     ensures holds { λ _. ⌜ now (room .exit) ≡ roomOf docid (now (texts .entry)) (now (ends .entry)) (length (now (room .entry))) ⌝ }

@@ -11,7 +11,7 @@ ghost use Prim.Native.Nat.{_+_, _≤_, _<_};
 ghost use lib.ListN.{length, take};
 ghost use Rattle.common.specs.Bytes.{part, span, over};
 ghost use Rattle.tokenizer.specs.Word.{fold};
-ghost use Rattle.writer.specs.Rows.{rowOf, columnOf, positionOf, wordOf, Inside, AllInside, notBefore, insertRow};
+ghost use Rattle.writer.specs.Rows.{rowOf, rowColumn, rowPosition, rowWord, RowInside, AllInside, notBefore, insertRow};
 ghost use Rattle.writer.specs.Rows.{Addable, AddedTo, Gatherable, Gathered};
 
 // One above the largest number that a part of a row holds.
@@ -27,22 +27,22 @@ fn row(start: usize, end: usize, column: usize, position: usize) -> u64
 
 // The column of a row.
 pub(crate) fn column_of(row: u64) -> u64
-    ensures { λ r. ⌜ r ≡ columnOf row ⌝ }
+    ensures { λ r. ⌜ r ≡ rowColumn row ⌝ }
 {
     row / PART % PART
 }
 
 // The position of a row.
 pub(crate) fn position_of(row: u64) -> u64
-    ensures { λ r. ⌜ r ≡ positionOf row ⌝ }
+    ensures { λ r. ⌜ r ≡ rowPosition row ⌝ }
 {
     row % PART
 }
 
 // The word of a row.
 pub(crate) fn word_of<'a>(folded: &'a [u8], row: u64) -> &'a [u8]
-    requires { ⌜ Inside (length (now folded)) row ⌝ }
-    ensures { λ r. ⌜ now r ≡ wordOf (now (folded .entry)) row ⌝ }
+    requires { ⌜ RowInside (length (now folded)) row ⌝ }
+    ensures { λ r. ⌜ now r ≡ rowWord (now (folded .entry)) row ⌝ }
 {
     let start = (row / PART / PART / PART) as usize;
     let end = (row / PART / PART % PART) as usize;
@@ -56,7 +56,7 @@ fn place(folded: &[u8], rows: &[u64], w: &[u8]) -> usize
 {
     let mut i: usize = 0;
     while i < rows.len() {
-        if words::is_earlier(w, word_of(folded, rows[i])) {
+        if leaf::is_before(w, word_of(folded, rows[i])) {
             return i;
         }
         i += 1;
@@ -81,7 +81,7 @@ fn shift_in(rows: &mut [u64], at: usize, n: usize, row: u64)
 
 // Puts a row at its place among the first `n`.
 fn insert(folded: &[u8], rows: &mut [u64], n: usize, row: u64)
-    requires { ⌜ (n < length (now rows)) × AllInside (length (now folded)) (take n (now rows)) × Inside (length (now folded)) row ⌝ }
+    requires { ⌜ (n < length (now rows)) × AllInside (length (now folded)) (take n (now rows)) × RowInside (length (now folded)) row ⌝ }
     ensures { λ _. ⌜ take (n + 1) (now (rows .exit)) ≡ insertRow (now (folded .entry)) row (take n (now (rows .entry))) ⌝ }
 {
     let at = place(folded, &rows[..n], word_of(folded, row));

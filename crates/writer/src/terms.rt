@@ -14,7 +14,7 @@ ghost use Rattle.common.specs.Bytes.{span, over};
 ghost use Rattle.varint.specs.Varint.{encode};
 ghost use Rattle.doclist.specs.Doclist.{encodeAll};
 ghost use Rattle.leaf.specs.Leaf.{sized};
-ghost use Rattle.writer.specs.Rows.{keyOf, AllInside, sameWord};
+ghost use Rattle.writer.specs.Rows.{rowKey, AllInside, sameWord};
 ghost use Rattle.writer.specs.Stored.{rowNumbers, listBytes, Rises, wordBytes, termOf, termsOf, Table};
 
 // How many rows, from the first on, have the word `w`.
@@ -24,7 +24,7 @@ fn run(folded: &[u8], rows: &[u64], w: &[u8]) -> usize
 {
     let mut i: usize = 0;
     while i < rows.len() {
-        if !words::is_same(w, rows::word_of(folded, rows[i])) {
+        if !common::is_same(w, rows::word_of(folded, rows[i])) {
             return i;
         }
         i += 1;
@@ -32,9 +32,9 @@ fn run(folded: &[u8], rows: &[u64], w: &[u8]) -> usize
     i
 }
 
-// How many bytes a row takes behind the row `last`, which is 0 for the first.
+// How many bytes a row takes after the row `last`, which is 0 for the first.
 fn row_size(last: u64, row: u64) -> usize
-    requires { ⌜ keyOf last ≤ keyOf row ⌝ }
+    requires { ⌜ rowKey last ≤ rowKey row ⌝ }
     ensures { λ r. ⌜ r ≡ length (encodeAll (rowNumbers last row)) ⌝ }
 {
     let column = rows::column_of(row);
@@ -70,9 +70,9 @@ fn put_number(out: &mut [u8], v: u64) -> usize
     varint::size(v)
 }
 
-// Puts a row behind the row `last`, which is 0 for the first, at the front of the room.
+// Puts a row after the row `last`, which is 0 for the first, at the front of the room.
 fn put_row(out: &mut [u8], last: u64, row: u64) -> usize
-    requires { ⌜ (keyOf last ≤ keyOf row) × (length (encodeAll (rowNumbers last row)) ≤ length (now out)) ⌝ }
+    requires { ⌜ (rowKey last ≤ rowKey row) × (length (encodeAll (rowNumbers last row)) ≤ length (now out)) ⌝ }
     ensures { λ r. ⌜ (r ≡ length (encodeAll (rowNumbers last row))) × (now (out .exit) ≡ over (encodeAll (rowNumbers last row)) (now (out .entry))) ⌝ }
 {
     let column = rows::column_of(row);
@@ -113,7 +113,7 @@ fn put_bytes(out: &mut [u8], bytes: &[u8])
     }
 }
 
-// Puts bytes behind their length at the front of the room.
+// Puts bytes after their length at the front of the room.
 fn put_sized(out: &mut [u8], bytes: &[u8]) -> usize
     requires { ⌜ length (sized (now bytes)) ≤ length (now out) ⌝ }
     ensures { λ r. ⌜ (r ≡ length (sized (now (bytes .entry)))) × (now (out .exit) ≡ over (sized (now (bytes .entry))) (now (out .entry))) ⌝ }
@@ -123,7 +123,7 @@ fn put_sized(out: &mut [u8], bytes: &[u8]) -> usize
     at + bytes.len()
 }
 
-// How many bytes a term takes behind the word `before`.
+// How many bytes a term takes after the word `before`.
 fn term_size(before: &[u8], w: &[u8], rows: &[u64], docid: u64) -> usize
     requires { ⌜ Rises 0 (now rows) × (length (now rows) ≤ 4096) ⌝ }
     ensures { λ r. ⌜ r ≡ length (termOf (now (before .entry)) (now (w .entry)) docid (now (rows .entry))) ⌝ }
@@ -138,7 +138,7 @@ fn term_size(before: &[u8], w: &[u8], rows: &[u64], docid: u64) -> usize
         + list
 }
 
-// Puts a word behind the word `before` at the front of the room: the prefix that they share, and the suffix.
+// Puts a word after the word `before` at the front of the room: the prefix that they share, and the suffix.
 fn put_word(out: &mut [u8], before: &[u8], w: &[u8]) -> usize
     requires { ⌜ length (wordBytes (now before) (now w)) ≤ length (now out) ⌝ }
     ensures { λ r. ⌜ (r ≡ length (wordBytes (now (before .entry)) (now (w .entry)))) × (now (out .exit) ≡ over (wordBytes (now (before .entry)) (now (w .entry))) (now (out .entry))) ⌝ }
@@ -148,7 +148,7 @@ fn put_word(out: &mut [u8], before: &[u8], w: &[u8]) -> usize
     at + put_sized(&mut out[at..], &w[prefix..])
 }
 
-// Puts a posting list behind its length at the front of the room.
+// Puts a posting list after its length at the front of the room.
 fn put_postings(out: &mut [u8], rows: &[u64], docid: u64) -> usize
     requires { ⌜ (docid < 2 ^ 63) × Rises 0 (now rows) × (length (now rows) ≤ 4096) ⌝ }
     requires { ⌜ length (sized (listBytes docid (now rows))) ≤ length (now out) ⌝ }

@@ -1,8 +1,6 @@
-// Words by their bytes: how much two of them share, and which comes first.
+// Words by their bytes: how much two of them share.
 ghost use mathlib.Core.Path.{_≡_};
-ghost use Rattle.common.specs.Bytes.{same};
 ghost use Rattle.leaf.specs.Leaf.{shared};
-ghost use Rattle.document.specs.Document.{earlier};
 
 // The length of the longest prefix that two words share.
 pub(crate) fn shared_prefix(v: &[u8], w: &[u8]) -> usize
@@ -19,28 +17,4 @@ pub(crate) fn shared_prefix(v: &[u8], w: &[u8]) -> usize
         i += 1;
     }
     i
-}
-
-// Whether a word comes before another.
-pub(crate) fn is_earlier(v: &[u8], w: &[u8]) -> bool
-    ensures { λ r. ⌜ r ≡ earlier (now (v .entry)) (now (w .entry)) ⌝ }
-{
-    let p = shared_prefix(v, w);
-    if w.len() <= p {
-        return false;
-    }
-    if v.len() <= p {
-        return true;
-    }
-    v[p] < w[p]
-}
-
-// Whether two words are the same.
-pub(crate) fn is_same(v: &[u8], w: &[u8]) -> bool
-    ensures { λ r. ⌜ r ≡ same (now (v .entry)) (now (w .entry)) ⌝ }
-{
-    if v.len() != w.len() {
-        return false;
-    }
-    shared_prefix(v, w) == v.len()
 }

@@ -1,5 +1,5 @@
 -- `links` meets its contract: no word is left, or the next word is not reached, or the call of itself answers for the words
--- behind it. The measure is the number of words that are left.
+-- after it. The measure is the number of words that are left.
 use Prim.Native.Nat.{ℕ, _+_, _-_, _<_}
 use native.Mathlib.Omega.{arith}
 use mathlib.Core.Bool.{false}

@@ -4,7 +4,7 @@ use native.Mathlib.Omega.{arith}
 use mathlib.Core.Path.{refl, sym, _∙_}
 use borrow.Author.Needs.{needs}
 use Rattle.common.proofs.Cases.{split}
-use Rattle.chain.specs.Chains.{chainEnd, Given}
+use Rattle.chain.specs.Chains.{chainEnd, ChainLengths}
 use Rattle.chain.proofs.Ends.{run-bounds}
 use Rattle.chain.proofs.Chaining.{decides-outside, decides-short, decides-narrow, decides-cramped, decides-single}
 use Rattle.chain.proofs.Rooms.{rooms-refused, rooms-all}
@@ -54,7 +54,7 @@ stands-in-requires c κs = search needs
 returns-6 : tie.Need-returns-6
 returns-6 c =
     let a = c .before .before .before .before .before .before .before .before .before .before .before .before .before .before .before .before .before .args in
-    let given : Given (a .ties .now) (a .distances .now) (a .columns .now) (a .from) (a .marks .now) (a .spare .now) =
+    let given : ChainLengths (a .ties .now) (a .distances .now) (a .columns .now) (a .from) (a .marks .now) (a .spare .now) =
     record {
       inside = c .before .before .before .before .before .before .before .before .if1 .left;
       distance-room = c .before .before .before .before .before .before .before .if2 .left;
@@ -68,7 +68,7 @@ returns-6 c =
 several-requires : tie.Need-several-requires
 several-requires c κs =
     let a = c .before .before .before .before .before .before .before .before .before .before .before .before .before .before .before .before .before .args in
-    let given : Given (a .ties .now) (a .distances .now) (a .columns .now) (a .from) (a .marks .now) (a .spare .now) =
+    let given : ChainLengths (a .ties .now) (a .distances .now) (a .columns .now) (a .from) (a .marks .now) (a .spare .now) =
     record {
       inside = c .before .before .before .before .before .before .before .before .if1 .left;
       distance-room = c .before .before .before .before .before .before .before .if2 .left;
@@ -89,7 +89,7 @@ same-length-2 c = search needs
 returns-7 : tie.Need-returns-7
 returns-7 c =
     let a = c .before .before .before .before .before .before .before .before .before .before .before .before .before .before .before .before .before .before .before .before .before .before .args in
-    let given : Given (a .ties .now) (a .distances .now) (a .columns .now) (a .from) (a .marks .now) (a .spare .now) =
+    let given : ChainLengths (a .ties .now) (a .distances .now) (a .columns .now) (a .from) (a .marks .now) (a .spare .now) =
     record {
       inside = c .before .before .before .before .before .before .before .before .before .before .before .before .before .if1 .left;
       distance-room = c .before .before .before .before .before .before .before .before .before .before .before .before .if2 .left;

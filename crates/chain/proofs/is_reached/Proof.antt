@@ -2,8 +2,9 @@
 use native.Mathlib.Omega.{arith}
 use mathlib.Core.Path.{sym, _∙_}
 use borrow.Author.Tests.{not-true, not-false}
-use Rattle.chain.proofs.Marking.{allowed-small, told-old, told-not, told-in}
+use Rattle.chain.proofs.Marking.{told-old, told-not, told-in}
 use borrow.Author.Needs.{needs}
+use Rattle.common.proofs.Bits.{contains-below}
 use Rattle.chain.proofs.is_reached.Statement.{statement}
 use Rattle.chain.proofs.is_reached.Tie as tie
 
@@ -23,7 +24,7 @@ returns-2 c =
 in-window-requires : tie.Need-in-window-requires
 in-window-requires c κs =
     let a = c .before .before .before .before .args in
-    (allowed-small (a .columns) (a .column) (omega arith) (sym (c .before .contains .ensures) ∙ not-false _ (c .if2 .left)), c .before .before .before .before .pre .0, c .before .before .before .before .pre .1, c .before .before .before .before .pre .2)
+    (contains-below (a .columns) (a .column) (omega arith) (sym (c .before .contains .ensures) ∙ not-false _ (c .if2 .left)), c .before .before .before .before .pre .0, c .before .before .before .before .pre .1, c .before .before .before .before .pre .2)
 
 returns-3 : tie.Need-returns-3
 returns-3 c =

@@ -7,7 +7,7 @@ use mathlib.Core.Path.{_≡_, refl, _∙_}
 use mathlib.Core.List.{List}
 use lib.ListN.{length}
 use Rattle.row.specs.Row.{Hit}
-use Rattle.row.specs.Walk.{left, Small}
+use Rattle.row.specs.Walk.{left, SmallFound}
 use Rattle.row.proofs.Rows.{walk-falls, walk-small}
 use Rattle.chain.specs.Chains.{RowFits, markWords}
 use Rattle.chain.specs.Keys.{Ordered}
@@ -18,7 +18,7 @@ use Rattle.chain.proofs.mark.Tie as tie
 
 abbrev Inv-loop : tie.InvT-loop
 Inv-loop leaves starts masks i columns tie keys count fresh marks₀ some₀ j₀ found₀ marks some j found =
-    Small found × (length marks ≡ length marks₀) × ((hits : List Hit) → RowFits leaves starts masks hits → markWords ≤ length marks₀ → Ordered keys count → Marking leaves starts masks i hits (Holding leaves starts masks i hits columns tie keys count fresh marks₀) marks₀ marks some j found)
+    SmallFound found × (length marks ≡ length marks₀) × ((hits : List Hit) → RowFits leaves starts masks hits → markWords ≤ length marks₀ → Ordered keys count → Marking leaves starts masks i hits (Holding leaves starts masks i hits columns tie keys count fresh marks₀) marks₀ marks some j found)
 
 abbrev μ-loop : tie.MeasureT-loop
 μ-loop leaves starts masks i columns tie keys count fresh marks₀ some₀ j₀ found₀ marks some j found =
@@ -68,8 +68,8 @@ is-reached-requires c κs =
     let l = c .before .before .before .before .before .before .loop in
     (walk-small (a .leaves .now) (a .starts .now) (a .masks .now) (a .i) (l .found) _ (c .before .before .before .before .found .given .1) (l .inv .0), c .before .before .before .before .before .before .before .before .before .before .before .before .before .pre .0, c .before .before .before .before .before .before .before .before .before .before .before .before .before .pre .1)
 
-put-requires : tie.Need-put-requires Inv-loop μ-loop
-put-requires c κs = search needs
+put-mark-requires : tie.Need-put-mark-requires Inv-loop μ-loop
+put-mark-requires c κs = search needs
 
 add-j : tie.Need-add-j Inv-loop μ-loop
 add-j c = search needs
@@ -86,13 +86,13 @@ loop-again : tie.Need-loop-again Inv-loop μ-loop
 loop-again c =
     let a = c .before .before .before .before .before .before .before .before .before .before .before .before .before .before .before .before .before .before .before .before .args in
     let l = c .before .before .before .before .before .before .before .before .before .before .before .before .before .loop in
-    let same : length (c .before .before .before .before .put .last .0) ≡ length (a .marks .now) = c .before .before .before .before .put .kept .0 ∙ l .inv .1 in (
+    let same : length (c .before .before .before .before .put-mark .last .0) ≡ length (a .marks .now) = c .before .before .before .before .put-mark .kept .0 ∙ l .inv .1 in (
       c .advance .ensures .small,
       same,
       λ hits row room ordered.
-          marking-put (a .leaves .now) (a .starts .now) (a .masks .now) (a .i) hits (a .columns) (a .tie) (a .keys .now) (a .count) (a .fresh) (a .marks .now) (l .marks) (c .before .before .before .before .put .last .0) (l .some) (c .before .before .before .before .before .before .before .was-marked .result) (c .before .before .before .before .before .before .is-reached .result) (c .before .if2 .some) (l .j) (l .found) (c .advance .result) _ (l .inv .2 hits row room ordered) (c .before .before .before .before .before .before .before .before .before .before .before .found .given .1)
+          marking-put (a .leaves .now) (a .starts .now) (a .masks .now) (a .i) hits (a .columns) (a .tie) (a .keys .now) (a .count) (a .fresh) (a .marks .now) (l .marks) (c .before .before .before .before .put-mark .last .0) (l .some) (c .before .before .before .before .before .before .before .was-marked .result) (c .before .before .before .before .before .before .is-reached .result) (c .before .if2 .some) (l .j) (l .found) (c .advance .result) _ (l .inv .2 hits row room ordered) (c .before .before .before .before .before .before .before .before .before .before .before .found .given .1)
           (walk-small (a .leaves .now) (a .starts .now) (a .masks .now) (a .i) (l .found) _ (c .before .before .before .before .before .before .before .before .before .before .before .found .given .1) (l .inv .0))
-          (c .before .before .before .before .before .before .before .was-marked .ensures) (c .before .before .before .before .before .before .is-reached .ensures ordered) (omega (arith, l .inv .1)) (c .before .before .before .before .before .before .before .before .before .if1 .left) (c .before .before .before .before .put .ensures)
+          (c .before .before .before .before .before .before .before .was-marked .ensures) (c .before .before .before .before .before .before .is-reached .ensures ordered) (omega (arith, l .inv .1)) (c .before .before .before .before .before .before .before .before .before .if1 .left) (c .before .before .before .before .put-mark .ensures)
           (⊎-elim (λ w. inl (w .0 .taken, w .1 ∙ w .0 .taken)) (λ w. inr (w .0 .left, w .1)) (c .before .if2 .came))
           (c .advance .ensures .finds),
     )
@@ -113,7 +113,7 @@ mark-spec =
     returns-2
     was-marked-requires
     is-reached-requires
-    put-requires
+    put-mark-requires
     add-j
     advance-requires
     loop-less

@@ -1,4 +1,4 @@
--- `operand_start` meets its contract: behind NEAR an operand begins.
+-- `operand_start` meets its contract: after NEAR an operand begins.
 use borrow.Author.Tests.{lt-ltb, le-ltb}
 use borrow.Author.Needs.{needs}
 use Rattle.chain.proofs.operand_start.Statement.{statement}

@@ -3,9 +3,9 @@ use native.Mathlib.Omega.{arith}
 use mathlib.Core.Path.{sym, _∙_}
 use mathlib.Core.Logic.{inl, inr}
 use borrow.Author.Tests.{not-true, not-false}
-use Rattle.chain.proofs.Marking.{allowed-small}
 use Rattle.chain.proofs.Stepping.{pushes-not, pushes-one}
 use borrow.Author.Needs.{needs}
+use Rattle.common.proofs.Bits.{contains-below}
 use Rattle.chain.proofs.push.Statement.{statement}
 use Rattle.chain.proofs.push.Tie as tie
 
@@ -25,13 +25,13 @@ returns-2 c =
 mul-insert : tie.Need-mul-insert
 mul-insert c =
     let a = c .before .before .before .before .before .args in
-    let h = allowed-small (a .columns) (a .column) (omega arith) (sym (c .before .before .contains .ensures) ∙ not-false _ (c .before .if2 .left)) in
+    let h = contains-below (a .columns) (a .column) (omega arith) (sym (c .before .before .contains .ensures) ∙ not-false _ (c .before .if2 .left)) in
     omega arith
 
 add-insert : tie.Need-add-insert
 add-insert c =
     let a = c .before .before .before .before .before .args in
-    let h = allowed-small (a .columns) (a .column) (omega arith) (sym (c .before .before .contains .ensures) ∙ not-false _ (c .before .if2 .left)) in
+    let h = contains-below (a .columns) (a .column) (omega arith) (sym (c .before .before .contains .ensures) ∙ not-false _ (c .before .if2 .left)) in
     omega (arith, c .before .before .before .before .before .pre .0)
 
 insert-requires : tie.Need-insert-requires

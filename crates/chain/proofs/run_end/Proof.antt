@@ -6,8 +6,10 @@ use mathlib.Core.Path.{_≡_, sym, _∙_}
 use lib.ListN.{length, drop}
 use borrow.Author.Needs.{needs}
 use Rattle.common.specs.Bytes.{within, span}
+use Rattle.common.proofs.Runs.{past-end, past-stop, past-more}
+use Rattle.common.proofs.Numbers.{within-true, within-low, within-high}
 use Rattle.chain.specs.Chains.{runEnd}
-use Rattle.chain.proofs.Ends.{run-outside, run-begins, run-ends, run-low, run-high, run-on}
+use Rattle.chain.proofs.Ends.{run-outside, run-begins}
 use Rattle.chain.proofs.run_end.Statement.{statement}
 use Rattle.chain.proofs.run_end.Tie as tie
 
@@ -36,12 +38,12 @@ shared-slice-read-tie c = search needs
 returns-2 : tie.Need-returns-2 Inv-loop μ-loop
 returns-2 c =
     let a = c .before .before .before .before .before .args in
-    sym (c .before .before .before .loop .inv .2 ∙ run-low (a .most) (a .ties .now) (c .before .before .before .loop .end) (c .before .before .loop-test .taken) (c .if2 .taken))
+    sym (c .before .before .before .loop .inv .2 ∙ past-stop (within 1 (a .most)) (a .ties .now) (c .before .before .before .loop .end) (c .before .before .loop-test .taken) (within-low 1 (a .most) _ (c .if2 .taken)))
 
 returns-3 : tie.Need-returns-3 Inv-loop μ-loop
 returns-3 c =
     let a = c .before .before .before .before .before .before .args in
-    sym (c .before .before .before .before .loop .inv .2 ∙ run-high (a .most) (a .ties .now) (c .before .before .before .before .loop .end) (c .before .before .before .loop-test .taken) (c .before .if2 .left) (c .if3 .taken))
+    sym (c .before .before .before .before .loop .inv .2 ∙ past-stop (within 1 (a .most)) (a .ties .now) (c .before .before .before .before .loop .end) (c .before .before .before .loop-test .taken) (within-high 1 (a .most) _ (c .if3 .taken)))
 
 add-end-2 : tie.Need-add-end-2 Inv-loop μ-loop
 add-end-2 c = search needs
@@ -52,12 +54,12 @@ loop-less c = search needs
 loop-again : tie.Need-loop-again Inv-loop μ-loop
 loop-again c =
     let a = c .before .before .before .before .before .before .args in
-    (c .before .before .before .before .loop .inv .0, omega arith, c .before .before .before .before .loop .inv .2 ∙ run-on (a .most) (a .ties .now) (c .before .before .before .before .loop .end) (c .before .before .before .loop-test .taken) (c .before .if2 .left) (c .if3 .left))
+    (c .before .before .before .before .loop .inv .0, omega arith, c .before .before .before .before .loop .inv .2 ∙ past-more (within 1 (a .most)) (a .ties .now) (c .before .before .before .before .loop .end) (c .before .before .before .loop-test .taken) (within-true 1 (a .most) _ (c .before .if2 .left) (c .if3 .left)))
 
 returns-4 : tie.Need-returns-4 Inv-loop μ-loop
 returns-4 c =
     let a = c .before .before .before .args in
-    sym (c .before .loop .inv .2 ∙ run-ends (a .most) (a .ties .now) (c .before .loop .end) (c .loop-test .left))
+    sym (c .before .loop .inv .2 ∙ past-end (within 1 (a .most)) (a .ties .now) (c .before .loop .end) (c .loop-test .left))
 
 pub run-end-spec : {M : Type 1} → statement M
 run-end-spec =

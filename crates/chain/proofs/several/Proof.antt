@@ -1,10 +1,10 @@
--- `several` meets its contract: `links` answers for the words behind the first, and gets the words to work in alone.
+-- `several` meets its contract: `links` answers for the words after the first, and gets the words to work in alone.
 use native.Mathlib.Omega.{arith}
 use mathlib.Core.Path.{sym}
 use lib.ListN.{take}
 use lib.Seq.{length-take-le}
-use Rattle.row.proofs.Frames.{kept-lent}
-use Rattle.chain.specs.Chains.{markWords, Room}
+use Rattle.common.proofs.Frames.{kept-lent}
+use Rattle.chain.specs.Chains.{markWords, MarkRoom}
 use Rattle.chain.proofs.Chaining.{decides-several}
 use borrow.Author.Needs.{needs}
 use Rattle.chain.proofs.several.Statement.{statement}
@@ -46,7 +46,7 @@ returns c =
     let k = c .before .before .before .before .links in
     let m = length-take-le markWords (a .marks .now) (g .marks-room) in
     let s = length-take-le markWords (a .spare .now) (g .spare-room) in
-    let room : Room (take markWords (a .marks .now)) (take markWords (a .spare .now)) = record { marks-room = omega arith; spare-room = omega arith } in (
+    let room : MarkRoom (take markWords (a .marks .now)) (take markWords (a .spare .now)) = record { marks-room = omega arith; spare-room = omega arith } in (
       decides-several (a .ties .now) (a .distances .now) (a .columns .now) (a .from) (a .leaves .now) (a .starts .now) (a .masks .now) (a .marks .now) (a .spare .now) (c .before .before .before .before .before .before .before .before .before .before .before .before .before .before .before .pre .1) (take markWords (a .marks .now)) (take markWords (a .spare .now)) room (k .result) (k .ensures),
       record {
         marks-kept = kept-lent markWords (a .marks .now) (k .last .1 .1 .1 .1 .1 .1 .1 .1 .1 .0) (g .marks-room) (k .kept .1 .1 .1 .1 .1 .1 .1 .1 .1 .0);

@@ -1,4 +1,4 @@
--- `stands_in` meets its contract. The loop's invariant: what is ahead decides (`Seeking`). The measure is how far the walk still
+-- `stands_in` meets its contract. The loop's invariant: what is ahead decides (`SeekingColumn`). The measure is how far the walk still
 -- has to go.
 use mathlib.Core.Path.{sym, _∙_}
 use mathlib.Core.List.{List}
@@ -6,12 +6,12 @@ use borrow.Author.Needs.{needs}
 use Rattle.row.specs.Row.{Hit}
 use Rattle.row.specs.Walk.{WholeRow, left}
 use Rattle.row.proofs.Rows.{walk-falls}
-use Rattle.chain.proofs.Walks.{Seeking, seeking-first, seeking-done, seeking-here, seeking-next}
+use Rattle.chain.proofs.Walks.{SeekingColumn, seeking-first, seeking-done, seeking-here, seeking-next}
 use Rattle.chain.proofs.stands_in.Statement.{statement}
 use Rattle.chain.proofs.stands_in.Tie as tie
 
 abbrev Inv-loop : tie.InvT-loop
-Inv-loop leaves starts masks i columns found₀ found = ((hits : List Hit) → WholeRow leaves starts masks hits → Seeking leaves starts masks i columns hits found)
+Inv-loop leaves starts masks i columns found₀ found = ((hits : List Hit) → WholeRow leaves starts masks hits → SeekingColumn leaves starts masks i columns hits found)
 
 abbrev μ-loop : tie.MeasureT-loop
 μ-loop leaves starts masks i columns found₀ found = left leaves starts found

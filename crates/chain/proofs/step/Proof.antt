@@ -7,13 +7,13 @@ use mathlib.Core.Logic.{⊎-elim}
 use mathlib.Core.Path.{_≡_, refl, sym, ap, _∙_, subst}
 use mathlib.Core.List.{List}
 use lib.ListN.{length, getD, drop, length-take, length-drop}
+use Rattle.common.proofs.Rooms.{back-length, back-part, back-before}
 use Rattle.row.specs.Row.{Hit}
-use Rattle.row.specs.Walk.{left, Small}
+use Rattle.row.specs.Walk.{left, SmallFound}
 use Rattle.row.proofs.Rows.{walk-falls, walk-small}
 use Rattle.chain.specs.Chains.{RowFits, bitWords, markWords}
 use Rattle.chain.specs.Keys.{Ordered}
 use Rattle.chain.specs.Reaching.{sourceOf}
-use Rattle.chain.proofs.General.{back-length, back-part, back-before}
 use Rattle.chain.proofs.Keys.{ordered-none}
 use Rattle.chain.proofs.Stepping.{keysOf, source-same, Stepping, stepping-first, stepping-flush, stepping-same, stepping-done, stepping-full, stepping-push}
 use borrow.Author.Needs.{needs}
@@ -22,7 +22,7 @@ use Rattle.chain.proofs.step.Tie as tie
 
 abbrev Inv-loop : tie.InvT-loop
 Inv-loop leaves starts masks i set tie first origin before₀ marks₀ fresh₀ len₀ j₀ found₀ before marks fresh len j found =
-    Small found
+    SmallFound found
     × (length before ≡ length before₀)
     × (length marks ≡ length marks₀)
     × ((k : ℕ) → k < bitWords → getD before k 0 ≡ getD before₀ k 0)

@@ -1,4 +1,4 @@
--- `window_at` meets its contract: the next word of a phrase, or the first behind NEAR.
+-- `window_at` meets its contract: the next word of a phrase, or the first after NEAR.
 use native.Mathlib.Omega.{arith}
 use borrow.Author.Tests.{eq-eqb}
 use Rattle.chain.proofs.Ends.{run-bounds}

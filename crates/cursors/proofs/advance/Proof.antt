@@ -3,14 +3,14 @@
 use lib.ListN.{length-set, length, getD, take}
 use Rattle.common.specs.Bytes.{part}
 use Rattle.common.proofs.Cases.{false-not-true}
+use Rattle.common.proofs.Frames.{kept-all, kept-set}
 use borrow.Author.Tests.{not-true, not-false}
 use mathlib.Core.Path.{_≡_, refl, sym, ap, _∙_, subst}
 use mathlib.Core.List.{List}
 use Prim.Native.Nat.{ℕ, _-_, _*_, _≤_, _<_, min}
 use native.Mathlib.Omega.{arith}
 use borrow.Author.Needs.{needs}
-use Rattle.row.specs.Frame.{KeptFrom}
-use Rattle.row.proofs.Frames.{kept-all, kept-set}
+use Rattle.common.specs.Frame.{KeptFrom}
 use Rattle.cursors.specs.Groups.{Group}
 use Rattle.cursors.specs.Frames.{otherThan, RowNext, RowFrame}
 use Rattle.cursors.proofs.Others.{rest-passed, rest-joined}
@@ -20,7 +20,7 @@ use Rattle.cursors.specs.declared.Scan.{Scan}
 use Rattle.cursors.specs.declared.Taken.{Taken}
 use Rattle.cursors.proofs.Framing.{frame-none, frame-others}
 use Rattle.cursors.proofs.Blocks.{minima-set, least-passed, least-taken}
-use Rattle.cursors.proofs.Scanning.{Ready, scanned-start, scanned-lower, scanned-block, scanned-end}
+use Rattle.cursors.proofs.Scanning.{ScanReady, scanned-start, scanned-lower, scanned-block, scanned-end}
 use Rattle.cursors.proofs.advance.Statement.{statement}
 use Rattle.cursors.proofs.advance.Tie as tie
 
@@ -37,7 +37,7 @@ Inv-loop docid leaves docids₀ bodies₀ lasts masks follows n mins₀ starts�
     × (scan .hits ≤ from)
     × (scan .taken ≤ from)
     × (MinimaAre docids₀ n mins₀ → MinimaAre docids n mins × (min (scan .rest) (scan .moved) ≡ leastOf (take from docids)) × (scan .rest ≡ leastOf (otherThan docid (take from docids₀))))
-    × ((gs : List Group) → Ready leaves docids₀ bodies₀ lasts masks follows n mins₀ starts₀ matched₀ docid gs
+    × ((gs : List Group) → ScanReady leaves docids₀ bodies₀ lasts masks follows n mins₀ starts₀ matched₀ docid gs
     → Scanned leaves docids bodies lasts masks follows n starts matched docid gs scan from)
     × RowFrame docid from docids₀ docids bodies₀ bodies starts₀ starts matched₀ matched (scan .hits) (scan .taken) (scan .last)
     × KeptFrom (blocksOf n) mins₀ mins
@@ -318,7 +318,7 @@ returns-3 c =
     let next : MinimaAre (a .docids .now) (a .n) (a .mins .now) → c .before .next-of .result ≡ nextOf (leastOf (take (a .n) (l .docids))) =
     λ m. c .before .next-of .ensures ∙ ap nextOf (c .before .before .lesser2 .ensures ∙ l .inv .10 m .1 ∙ ap (λ (k : ℕ). leastOf (take k (l .docids))) q) in (
       λ gs are minima limit from hs hm.
-          let r : Ready (a .leaves .now) (a .docids .now) (a .bodies .now) (a .lasts .now) (a .masks .now) (a .follows .now) (a .n) (a .mins .now) (a .starts .now) (a .matched .now) (a .docid) gs =
+          let r : ScanReady (a .leaves .now) (a .docids .now) (a .bodies .now) (a .lasts .now) (a .masks .now) (a .follows .now) (a .n) (a .mins .now) (a .starts .now) (a .matched .now) (a .docid) gs =
           record { cursors-are = are; minima = minima; limit = limit; from = from; start-room = hs; matched-room = hm } in
           subst (RowTaken (a .leaves .now) (l .docids) (l .bodies) (a .lasts .now) (a .masks .now) (a .follows .now) (a .n) (l .mins) (l .starts) (l .matched) (a .docid) gs) (sym (c .end-scan2 .ensures))
           (scanned-end (c .before .next-of .result) r (f .docid-room) (f .body-room)

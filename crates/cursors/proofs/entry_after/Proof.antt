@@ -1,4 +1,4 @@
--- `cursors::entry_after` meets its contract: where an entry stands at `body`, the next one of its list is read behind its first
+-- `cursors::entry_after` meets its contract: where an entry stands at `body`, the next one of its list is read after its first
 -- byte 0.
 use Rattle.cursors.proofs.Bodies.{last-inside, stands-last, next-not-refused, next-here, span-inside}
 use mathlib.Core.Path.{sym, _∙_}

@@ -1,13 +1,13 @@
 -- `cursors::minima` meets its contract. The loop's invariant: the least docids of the first `b` blocks are written.
 use lib.ListN.{length-set, length, getD}
 use Rattle.common.specs.Bytes.{part}
+use Rattle.common.proofs.Frames.{kept-all, kept-set}
 use Rattle.cursors.proofs.Blocks.{minima-more}
 use mathlib.Core.Path.{_≡_, refl, ap, _∙_}
 use Prim.Native.Nat.{ℕ, _-_, _*_, _≤_, _<_, min}
 use native.Mathlib.Omega.{arith}
 use borrow.Author.Needs.{needs}
-use Rattle.row.specs.Frame.{KeptFrom}
-use Rattle.row.proofs.Frames.{kept-all, kept-set}
+use Rattle.common.specs.Frame.{KeptFrom}
 use Rattle.cursors.specs.Arrays.{leastOf, blockSize, blocksOf, blockOf}
 use Rattle.cursors.proofs.minima.Statement.{statement}
 use Rattle.cursors.proofs.minima.Tie as tie

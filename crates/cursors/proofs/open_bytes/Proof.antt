@@ -6,7 +6,7 @@ use mathlib.Core.Path.{_≡_, sym, _∙_}
 use lib.ListN.{length}
 use borrow.Author.Needs.{needs}
 use Rattle.common.specs.Bytes.{span}
-use Rattle.tokenizer.proofs.General.{past, past-end, past-stop, past-more}
+use Rattle.common.proofs.Runs.{past, past-end, past-stop, past-more}
 use Rattle.cursors.specs.Arrays.{isOpen}
 use Rattle.cursors.proofs.Bodies.{is-open, not-open}
 use Rattle.cursors.proofs.open_bytes.Statement.{statement}

@@ -6,19 +6,20 @@ use Prim.Native.Nat.{_+_, _-_, _≤_}
 use native.Mathlib.Omega.{arith}
 use borrow.Author.Needs.{needs}
 use lib.ListN.{length}
+use Rattle.common.specs.Bounds.{maxIndexBytes}
 use Rattle.doclist.specs.Doclist.{Entry}
-use Rattle.cursors.specs.Arrays.{finished, maxLeaves, ListAt}
+use Rattle.cursors.specs.Arrays.{finished, ListAt}
 use Rattle.cursors.proofs.Passing.{Remains, remains-next, remains-end}
 use Rattle.cursors.proofs.place_from.Statement.{statement}
 use Rattle.cursors.proofs.place_from.Tie as tie
 
 abbrev Inv-loop : tie.InvT-loop
 Inv-loop leaves docid body last rest place₀ place =
-    ((left : List Entry) → length leaves ≤ maxLeaves → ListAt leaves left docid body last → Remains leaves left rest (place .docid) (place .body) last)
+    ((left : List Entry) → length leaves ≤ maxIndexBytes → ListAt leaves left docid body last → Remains leaves left rest (place .docid) (place .body) last)
     × (rest ≤ docid → (place .docid ≡ docid) × (place .body ≡ body))
 
 abbrev μ-loop : tie.MeasureT-loop
-μ-loop leaves docid body last rest place₀ place = (finished + maxLeaves) - (place .docid + place .body)
+μ-loop leaves docid body last rest place₀ place = (finished + maxIndexBytes) - (place .docid + place .body)
 
 loop-holds : tie.Need-loop-holds Inv-loop μ-loop
 loop-holds c = (λ left small h. record { entries = left; stands = h; same = refl }, λ h. (refl, refl))

@@ -5,10 +5,10 @@ use native.Mathlib.Omega.{arith}
 use mathlib.Core.Path.{refl, sym, _∙_, subst}
 use lib.ListN.{length}
 use borrow.Author.Needs.{needs}
-use Rattle.doclist.specs.Doclist.{maxColumns}
+use Rattle.common.proofs.Numbers.{within-low, within-high}
+use Rattle.common.specs.Bounds.{maxColumns}
 use Rattle.doclist.specs.Spots.{Checking, Closes}
 use Rattle.doclist.specs.declared.State.the-variants.{Open}
-use Rattle.doclist.proofs.General.{within-low, within-high}
 use Rattle.doclist.proofs.Steps.{checking-ends, checking-refused}
 use Rattle.doclist.proofs.Law.{checked, check-wrong}
 use Rattle.doclist.proofs.Spots.{inside, at-number, at-refused, checking-start, docid-again, docid-large, next-entry}

@@ -1,8 +1,8 @@
 -- `find` meets its contract. The loop's invariant: what is left to search, from the state `q` on, gives what the search of
 -- the whole list gives (`Finding`). The measure is what is left of the length.
+use Rattle.common.proofs.Numbers.{within-low, within-high}
+use Rattle.common.specs.Bounds.{maxColumns}
 use Rattle.doclist.proofs.Finding.{Finding, finding-ends, finding-refused, finding-inside, finding-found, finding-behind, finding-next, told-not-closed, found, find-walk, find-wrong}
-use Rattle.doclist.specs.Doclist.{maxColumns}
-use Rattle.doclist.proofs.General.{within-low, within-high}
 use Rattle.varint.proofs.Laws.{stored-at, next-after}
 use mathlib.Core.Path.{sym, _∙_}
 use Prim.Native.Nat.{_-_}

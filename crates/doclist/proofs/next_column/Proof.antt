@@ -1,6 +1,5 @@
 -- `next_column` meets its contract: each test of the code is the test of `nextColumnOf`.
 use borrow.Author.Tests.{lt-ltb, le-ltb, le-leb, lt-leb}
-use Prim.Native.Nat.{_-_}
 use Rattle.doclist.proofs.next_column.Statement.{statement}
 use Rattle.doclist.proofs.next_column.Tie as tie
 

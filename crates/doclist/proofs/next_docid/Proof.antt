@@ -1,6 +1,5 @@
 -- `next_docid` meets its contract: each test of the code is the test of `nextDocidOf`.
 use borrow.Author.Tests.{lt-ltb, le-ltb, eq-eqb, ne-eqb}
-use Prim.Native.Nat.{_-_}
 use borrow.Author.Needs.{needs}
 use Rattle.doclist.proofs.next_docid.Statement.{statement}
 use Rattle.doclist.proofs.next_docid.Tie as tie

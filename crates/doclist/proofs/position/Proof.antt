@@ -1,6 +1,5 @@
 -- `position` meets its contract: each test of the code is the test of `positionOf`.
 use borrow.Author.Tests.{lt-ltb, le-ltb}
-use Prim.Native.Nat.{_-_}
 use borrow.Author.Needs.{needs}
 use Rattle.doclist.proofs.position.Statement.{statement}
 use Rattle.doclist.proofs.position.Tie as tie

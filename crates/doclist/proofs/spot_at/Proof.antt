@@ -1,6 +1,5 @@
 -- `spot_at` meets its contract: each test of the code is the test of `spotOf`.
 use borrow.Author.Tests.{lt-ltb, le-ltb}
-use Prim.Native.Nat.{_-_}
 use borrow.Author.Needs.{needs}
 use Rattle.doclist.proofs.spot_at.Statement.{statement}
 use Rattle.doclist.proofs.spot_at.Tie as tie

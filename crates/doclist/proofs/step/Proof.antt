@@ -1,6 +1,5 @@
 -- `step` meets its contract, by the cases of the state; what the bounds of the state say is what its callees require.
 use borrow.Author.Tests.{eq-eqb, ne-eqb}
-use Prim.Native.Nat.{_-_}
 use borrow.Author.Needs.{needs}
 use Rattle.doclist.proofs.step.Statement.{statement}
 use Rattle.doclist.proofs.step.Tie as tie

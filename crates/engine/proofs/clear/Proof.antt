@@ -6,7 +6,7 @@ use mathlib.Core.List.{List, _++_}
 use lib.IntN.{ℤ, pos}
 use lib.ListN.{length, drop, set, replicate}
 use borrow.Author.Needs.{needs}
-use Rattle.engine.proofs.General.{fill-more, fill-all}
+use Rattle.common.proofs.Rooms.{fill-more, fill-all}
 use Rattle.engine.proofs.clear.Statement.{statement}
 use Rattle.engine.proofs.clear.Tie as tie
 

@@ -5,12 +5,12 @@ use mathlib.Core.Bool.{true}
 use lib.ListN.{set}
 use borrow.Author.Needs.{needs}
 use Rattle.common.specs.Pick.{pick}
-use Rattle.meaning.specs.Listing.{shown}
+use Rattle.meaning.specs.Listing.{signedDocid}
 use Rattle.engine.proofs.note.Statement.{statement}
 use Rattle.engine.proofs.note.Tie as tie
 
-put-requires : tie.Need-put-requires
-put-requires c κs = search needs
+put-docid-requires : tie.Need-put-docid-requires
+put-docid-requires c κs = search needs
 
 add-result : tie.Need-add-result
 add-result c = search needs
@@ -22,10 +22,10 @@ returns : tie.Need-returns
 returns c =
     let a = c .before .before .before .before .args in
     let t : a .holds ≡ true = c .before .before .before .if1 .taken in
-    (sym (ap (λ b. pick b (a .count + 1) (a .count)) t), c .before .put .ensures ∙ sym (ap (λ b. pick b (set (a .room .now) (a .count) (shown (a .docid))) (a .room .now)) t))
+    (sym (ap (λ b. pick b (a .count + 1) (a .count)) t), c .before .put-docid .ensures ∙ sym (ap (λ b. pick b (set (a .room .now) (a .count) (signedDocid (a .docid))) (a .room .now)) t))
 
 returns-2 : tie.Need-returns-2
 returns-2 c = search needs
 
 pub note-spec : {M : Type 1} → statement M
-note-spec = tie.close (tie.spec put-requires add-result same-length returns returns-2)
+note-spec = tie.close (tie.spec put-docid-requires add-result same-length returns returns-2)

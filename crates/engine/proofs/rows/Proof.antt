@@ -1,5 +1,5 @@
 -- `rows` meets its contract. The loop's invariant, `Going`: the docids below `from` that satisfy the query are listed, and the
--- cursors stand at or behind it. The measure is what is left up to the largest docid.
+-- cursors stand at or after it. The measure is what is left up to the largest docid.
 use Prim.Native.Nat.{_-_}
 use native.Mathlib.Omega.{arith}
 use mathlib.Core.Path.{refl}

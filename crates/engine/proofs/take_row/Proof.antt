@@ -1,6 +1,6 @@
--- `take_row` meets its contract: the row that the cursors give is judged, and they go on.
+-- `take_row` meets its contract: the row that the cursors give is evaluated, and they go on.
 use borrow.Author.Needs.{needs}
-use Rattle.engine.proofs.Judging.{row-judged}
+use Rattle.engine.proofs.RowLaws.{row-evaluated}
 use Rattle.engine.proofs.take_row.Statement.{statement}
 use Rattle.engine.proofs.take_row.Tie as tie
 
@@ -37,7 +37,7 @@ same-length-7 c = search needs
 returns : tie.Need-returns
 returns c =
     λ tree live groups ready.
-    row-judged {query = c .before .before .before .before .before .before .before .before .before .before .before .before .before .before .before .before .before .before .before .before .before .before .before .before .before .before .before .before .before .before .before .before .before .before .before .before .before .before .before .before .before .before .before .before .before .before .args .query} (c .before .before .before .before .before .before .before .before .before .before .before .before .before .before .before .before .before .before .before .before .before .before .before .before .before .before .before .before .before .advance .result) (c .before .before .before .before .before .before .before .before .before .before .before .before .before .before .before .go-on .result) (c .before .before .before .before .before .before .before .before .before .before .before .before .before .before .before .before .before .before .before .before .before .before .before .before .before .before .before .before .before .before .before .before .before .before .before .before .before .before .before .before .before .before .before .before .before .before .pre) (c .before .before .before .before .before .before .before .before .before .before .before .before .before .before .before .before .before .before .before .before .before .before .before .before .before .before .before .before .before .advance .ensures .0) (c .before .before .before .before .before .before .before .before .before .before .before .before .before .before .before .go-on .ensures) tree live groups ready (c .before .before .before .before .row-holds .ensures)
+    row-evaluated {query = c .before .before .before .before .before .before .before .before .before .before .before .before .before .before .before .before .before .before .before .before .before .before .before .before .before .before .before .before .before .before .before .before .before .before .before .before .before .before .before .before .before .before .before .before .before .before .args .query} (c .before .before .before .before .before .before .before .before .before .before .before .before .before .before .before .before .before .before .before .before .before .before .before .before .before .before .before .before .before .advance .result) (c .before .before .before .before .before .before .before .before .before .before .before .before .before .before .before .go-on .result) (c .before .before .before .before .before .before .before .before .before .before .before .before .before .before .before .before .before .before .before .before .before .before .before .before .before .before .before .before .before .before .before .before .before .before .before .before .before .before .before .before .before .before .before .before .before .before .pre) (c .before .before .before .before .before .before .before .before .before .before .before .before .before .before .before .before .before .before .before .before .before .before .before .before .before .before .before .before .before .advance .ensures .0) (c .before .before .before .before .before .before .before .before .before .before .before .before .before .before .before .go-on .ensures) tree live groups ready (c .before .before .before .before .row-holds .ensures)
 
 pub take-row-spec : {M : Type 1} → statement M
 take-row-spec =

@@ -9,15 +9,15 @@ use borrow.Author.Needs.{needs}
 use Rattle.query.specs.Tree.{Tree, treeNodes, postfix}
 use Rattle.meaning.specs.Satisfies.{Live, StandsAt}
 use Rattle.row.specs.Row.{Hit}
-use Rattle.chain.specs.Chains.{chainEnd, WordsAre, RowFits, Agrees, Room, RoomsKept}
+use Rattle.chain.specs.Chains.{chainEnd, TiesAre, RowFits, Agrees, MarkRoom, RoomsKept}
 use Rattle.chain.proofs.Rooms.{rooms-all, rooms-again}
-use Rattle.evaluate.specs.Evaluate.{pushed, applied, Fit}
+use Rattle.evaluate.specs.Evaluate.{pushBit, applied, Fit}
 use Rattle.evaluate.proofs.Running.{running-same, room-same, Running, running-start, running-done, running-chain, running-op}
 use Rattle.evaluate.proofs.run.Statement.{statement}
 use Rattle.evaluate.proofs.run.Tie as tie
 
 abbrev Inv-loop : tie.InvT-loop
-Inv-loop ties distances columns codes leaves starts masks marks₀ spare₀ stack₀ word₀ i₀ marks spare stack word i = (length marks ≡ length marks₀) × (length spare ≡ length spare₀) × ((tree : Tree) (hits : List Hit) (live : Live) (docid : ℕ) → Fit tree → WordsAre (treeNodes tree) ties distances columns → codes ≡ postfix tree → RowFits leaves starts masks hits → Agrees (StandsAt live docid) (treeNodes tree) hits → Room marks₀ spare₀ → Running tree live docid codes stack word i) × RoomsKept marks₀ marks spare₀ spare
+Inv-loop ties distances columns codes leaves starts masks marks₀ spare₀ stack₀ word₀ i₀ marks spare stack word i = (length marks ≡ length marks₀) × (length spare ≡ length spare₀) × ((tree : Tree) (hits : List Hit) (live : Live) (docid : ℕ) → Fit tree → TiesAre (treeNodes tree) ties distances columns → codes ≡ postfix tree → RowFits leaves starts masks hits → Agrees (StandsAt live docid) (treeNodes tree) hits → MarkRoom marks₀ spare₀ → Running tree live docid codes stack word i) × RoomsKept marks₀ marks spare₀ spare
 
 abbrev μ-loop : tie.MeasureT-loop
 μ-loop ties distances columns codes leaves starts masks marks₀ spare₀ stack₀ word₀ i₀ marks spare stack word i = length codes - i
@@ -52,7 +52,7 @@ loop-again c =
       c .before .before .before .before .before .before .holds .kept .1 .1 .1 .1 .1 .1 .1 .0 ∙ l .inv .0,
       c .before .before .before .before .before .before .holds .kept .1 .1 .1 .1 .1 .1 .1 .1 .0 ∙ l .inv .1,
       λ tree hits live docid fit words codes row agrees room.
-          running-same tree live docid (a .codes .now) (pushed (l .stack) (c .before .before .before .before .before .before .holds .result)) (c .before .push .result) (chainEnd (a .ties .now) (l .word)) (c .chain-end .result) (l .i + 1) (c .before .push .ensures) (c .chain-end .ensures)
+          running-same tree live docid (a .codes .now) (pushBit (l .stack) (c .before .before .before .before .before .before .holds .result)) (c .before .push .result) (chainEnd (a .ties .now) (l .word)) (c .chain-end .result) (l .i + 1) (c .before .push .ensures) (c .chain-end .ensures)
           (running-chain tree fit live docid (a .codes .now) (l .stack) (l .word) (l .i) (l .inv .2 tree hits live docid fit words codes row agrees room) (c .before .before .before .before .before .before .before .before .before .before .before .loop-test .taken)
           (a .ties .now) (a .distances .now) (a .columns .now) (a .leaves .now) (a .starts .now) (a .masks .now) (l .marks) (l .spare) hits words row agrees
           (room-same (a .marks .now) (a .spare .now) (l .marks) (l .spare) (l .inv .0) (l .inv .1) room)

@@ -1,5 +1,4 @@
 -- `fts4box::fts4_deciding` meets its contract: the answer is that of `lookup::find_entry`.
-use Prim.Native.Nat.{_-_}
 use mathlib.Core.Path.{refl, ap₂, subst}
 use lib.IntN.{ℤ}
 use mir.Facts.{toZ-ofZ}

@@ -1,6 +1,5 @@
 -- `fts4box::fts4_lookup` meets its contract: the answer is that of `lookup::find_list`.
 use mathlib.Core.Path.{refl, ap₂}
-use Prim.Native.Nat.{_-_}
 use borrow.Author.Needs.{needs}
 use Rattle.common.specs.Refusals.{numbers}
 use Rattle.fts4box.proofs.fts4_lookup.Statement.{statement}

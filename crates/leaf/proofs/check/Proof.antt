@@ -14,6 +14,9 @@ returns c =
     let n : ℕ = c .before .before .args .columns in
     checked n s (no-columns n s (c .if1 .taken))
 
+cast-if2 : tie.Need-cast-if2
+cast-if2 c = search needs
+
 returns-2 : tie.Need-returns-2
 returns-2 c =
     let s : List ℕ = c .before .before .before .args .leaf .now in
@@ -52,4 +55,4 @@ returns-6 c =
 
 pub check-spec : {M : Type 1} → statement M
 check-spec =
-    tie.close (tie.spec returns returns-2 returns-3 walk-requires returns-4 returns-5 returns-6)
+    tie.close (tie.spec returns cast-if2 returns-2 returns-3 walk-requires returns-4 returns-5 returns-6)

@@ -8,11 +8,13 @@ use lib.ListN.{length, take}
 use borrow.Author.Tests.{ne-eqb, not-true, not-false}
 use borrow.Author.Needs.{needs}
 use Rattle.common.specs.Bytes.{part}
+use Rattle.common.proofs.Parts.{part-length}
+use Rattle.common.proofs.Rooms.{paste-length}
 use Rattle.leaf.specs.Reading.{frontOf}
+use Rattle.leaf.proofs.Words.{suffix-fits}
 use Rattle.leaf.proofs.Heads.{head-sound}
-use Rattle.leaf.proofs.General.{part-length}
 use Rattle.leaf.proofs.Laws.{walked}
-use Rattle.leaf.proofs.Walking.{Walking, walking-start, walking-more, put-length, walk-end, no-head, no-join, no-list}
+use Rattle.leaf.proofs.Walking.{Walking, walking-start, walking-more, walk-end, no-head, no-join, no-list}
 use Rattle.leaf.proofs.walk.Statement.{statement}
 use Rattle.leaf.proofs.walk.Tie as tie
 
@@ -152,75 +154,72 @@ add-to c =
     let t = head-sound s (l .i) e in
     omega (arith, c .before .before .before .before .before .before .before .before .before .before .before .before .before .before .before .before .before .before .before .before .good .0 .0)
 
-sub-put : tie.Need-sub-put Inv-loop μ-loop
-sub-put c =
+slice-aggregate-put-suffix : tie.Need-slice-aggregate-put-suffix Inv-loop μ-loop
+slice-aggregate-put-suffix c = sym (c .before .before .before .before .before .before .before .before .before .before .before .before .before .before .loop .inv .1)
+
+sub-put-suffix : tie.Need-sub-put-suffix Inv-loop μ-loop
+sub-put-suffix c =
     let s : List ℕ = c .before .before .before .before .before .before .before .before .before .before .before .before .before .before .before .before .before .before .before .before .before .args .s .now in
     let l = c .before .before .before .before .before .before .before .before .before .before .before .before .before .before .loop in
     let e = sym (c .before .before .before .before .before .before .before .before .before .before .before .before .head-at .ensures) ∙ c .before .before .before .before .before .before .before .before .before .before .prefix .given .1 in
     let t = head-sound s (l .i) e in
     omega arith
 
-part-put-start : tie.Need-part-put-start Inv-loop μ-loop
-part-put-start c =
+part-put-suffix-start : tie.Need-part-put-suffix-start Inv-loop μ-loop
+part-put-suffix-start c =
     let s : List ℕ = c .before .before .before .before .before .before .before .before .before .before .before .before .before .before .before .before .before .before .before .before .before .args .s .now in
     let l = c .before .before .before .before .before .before .before .before .before .before .before .before .before .before .loop in
     let e = sym (c .before .before .before .before .before .before .before .before .before .before .before .before .head-at .ensures) ∙ c .before .before .before .before .before .before .before .before .before .before .prefix .given .1 in
     let t = head-sound s (l .i) e in
     omega arith
 
-part-put-end : tie.Need-part-put-end Inv-loop μ-loop
-part-put-end c =
+part-put-suffix-end : tie.Need-part-put-suffix-end Inv-loop μ-loop
+part-put-suffix-end c =
     let s : List ℕ = c .before .before .before .before .before .before .before .before .before .before .before .before .before .before .before .before .before .before .before .before .before .args .s .now in
     let l = c .before .before .before .before .before .before .before .before .before .before .before .before .before .before .loop in
     let e = sym (c .before .before .before .before .before .before .before .before .before .before .before .before .head-at .ensures) ∙ c .before .before .before .before .before .before .before .before .before .before .prefix .given .1 in
     let t = head-sound s (l .i) e in
     omega arith
 
-put-requires : tie.Need-put-requires Inv-loop μ-loop
-put-requires c κs =
-    let s : List ℕ = c .before .before .before .before .before .before .before .before .before .before .before .before .before .before .before .before .before .before .before .before .before .before .args .s .now in
-    let l = c .before .before .before .before .before .before .before .before .before .before .before .before .before .before .before .loop in
-    let e = sym (c .before .before .before .before .before .before .before .before .before .before .before .before .before .head-at .ensures) ∙ c .before .before .before .before .before .before .before .before .before .before .before .prefix .given .1 in
-    let t = head-sound s (l .i) e in
-    let v = c .before .before .before .before .before .before .before .before .before .before .before .prefix .given .0 in
-    let q = part-length s (v .1 .0) (v .1 .0 + v .1 .1 .0) (omega arith) in
-    (omega arith, l .inv .1)
+put-suffix-requires : tie.Need-put-suffix-requires Inv-loop μ-loop
+put-suffix-requires c κs = tt
 
 add-len : tie.Need-add-len Inv-loop μ-loop
 add-len c =
-    let s : List ℕ = c .before .before .before .before .before .before .before .before .before .before .before .before .before .before .before .before .before .before .before .before .before .before .before .args .s .now in
-    let l = c .before .before .before .before .before .before .before .before .before .before .before .before .before .before .before .before .loop in
-    let e = sym (c .before .before .before .before .before .before .before .before .before .before .before .before .before .before .head-at .ensures) ∙ c .before .before .before .before .before .before .before .before .before .before .before .before .prefix .given .1 in
+    let s : List ℕ = c .before .before .before .before .before .before .before .before .before .before .before .before .before .before .before .before .before .before .before .before .before .before .before .before .args .s .now in
+    let l = c .before .before .before .before .before .before .before .before .before .before .before .before .before .before .before .before .before .loop in
+    let e = sym (c .before .before .before .before .before .before .before .before .before .before .before .before .before .before .before .head-at .ensures) ∙ c .before .before .before .before .before .before .before .before .before .before .before .before .before .prefix .given .1 in
     let t = head-sound s (l .i) e in
     omega arith
 
 add-words : tie.Need-add-words Inv-loop μ-loop
 add-words c =
-    let s : List ℕ = c .before .before .before .before .before .before .before .before .before .before .before .before .before .before .before .before .before .before .before .before .before .before .before .args .s .now in
-    let l = c .before .before .before .before .before .before .before .before .before .before .before .before .before .before .before .before .loop in
+    let s : List ℕ = c .before .before .before .before .before .before .before .before .before .before .before .before .before .before .before .before .before .before .before .before .before .before .before .before .args .s .now in
+    let l = c .before .before .before .before .before .before .before .before .before .before .before .before .before .before .before .before .before .loop in
     let w = l .inv .2 in
-    omega (arith, c .before .before .before .before .before .before .before .before .before .before .before .before .before .before .before .before .before .before .before .before .before .before .before .good .0 .0, c .before .before .before .before .before .before .before .before .before .before .before .before .before .before .before .loop-test .taken)
+    omega (arith, c .before .before .before .before .before .before .before .before .before .before .before .before .before .before .before .before .before .before .before .before .before .before .before .before .good .0 .0, c .before .before .before .before .before .before .before .before .before .before .before .before .before .before .before .before .loop-test .taken)
 
 loop-less : tie.Need-loop-less Inv-loop μ-loop
 loop-less c =
-    let s : List ℕ = c .before .before .before .before .before .before .before .before .before .before .before .before .before .before .before .before .before .before .before .before .before .before .before .args .s .now in
-    let l = c .before .before .before .before .before .before .before .before .before .before .before .before .before .before .before .before .loop in
-    let e = sym (c .before .before .before .before .before .before .before .before .before .before .before .before .before .before .head-at .ensures) ∙ c .before .before .before .before .before .before .before .before .before .before .before .before .prefix .given .1 in
+    let s : List ℕ = c .before .before .before .before .before .before .before .before .before .before .before .before .before .before .before .before .before .before .before .before .before .before .before .before .args .s .now in
+    let l = c .before .before .before .before .before .before .before .before .before .before .before .before .before .before .before .before .before .loop in
+    let e = sym (c .before .before .before .before .before .before .before .before .before .before .before .before .before .before .before .head-at .ensures) ∙ c .before .before .before .before .before .before .before .before .before .before .before .before .before .prefix .given .1 in
     let t = head-sound s (l .i) e in
-    omega (arith, c .before .before .before .before .before .before .before .before .before .before .before .before .before .before .before .loop-test .taken)
+    omega (arith, c .before .before .before .before .before .before .before .before .before .before .before .before .before .before .before .before .loop-test .taken)
 
 loop-again : tie.Need-loop-again Inv-loop μ-loop
 loop-again c =
-    let s : List ℕ = c .before .before .before .before .before .before .before .before .before .before .before .before .before .before .before .before .before .before .before .before .before .before .before .args .s .now in
-    let l = c .before .before .before .before .before .before .before .before .before .before .before .before .before .before .before .before .loop in
+    let s : List ℕ = c .before .before .before .before .before .before .before .before .before .before .before .before .before .before .before .before .before .before .before .before .before .before .before .before .args .s .now in
+    let l = c .before .before .before .before .before .before .before .before .before .before .before .before .before .before .before .before .before .loop in
     let w = l .inv .2 in
-    let e = sym (c .before .before .before .before .before .before .before .before .before .before .before .before .before .before .head-at .ensures) ∙ c .before .before .before .before .before .before .before .before .before .before .before .before .prefix .given .1 in
+    let e = sym (c .before .before .before .before .before .before .before .before .before .before .before .before .before .before .before .head-at .ensures) ∙ c .before .before .before .before .before .before .before .before .before .before .before .before .before .prefix .given .1 in
     let t = head-sound s (l .i) e in
-    let j = sym (c .before .before .before .before .before .before .before .before .joins .ensures) ∙ not-false _ (c .before .before .before .before .before .before .before .if2 .left) in
-    let v = c .before .before .before .before .before .before .before .before .before .before .before .before .prefix .given .0 in
-    let a = sym (c .before .before .before .before .before .check .ensures .0) ∙ c .before .before .before .enum-told3 .given .1 in
+    let j = sym (c .before .before .before .before .before .before .before .before .before .joins .ensures) ∙ not-false _ (c .before .before .before .before .before .before .before .before .if2 .left) in
+    let v = c .before .before .before .before .before .before .before .before .before .before .before .before .before .prefix .given .0 in
+    let a = sym (c .before .before .before .before .before .before .check .ensures .0) ∙ c .before .before .before .before .enum-told3 .given .1 in
     let q = part-length s (v .1 .0) (v .1 .0 + v .1 .1 .0) (omega arith) in
-    (omega arith, put-length _ (l .word) (part s (v .1 .0) (v .1 .0 + v .1 .1 .0)) (v .0) (c .put .ensures) (omega (arith, l .inv .1)) ∙ l .inv .1, walking-more (l .len) (l .word) _ w (omega (arith, l .inv .0, l .inv .1)) (c .before .before .before .before .before .before .before .before .before .before .before .before .before .before .before .loop-test .taken) e j a (c .put .ensures))
+    let put = c .before .put-suffix .ensures ∙ suffix-fits (l .word) (part s (v .1 .0) (v .1 .0 + v .1 .1 .0)) (v .0) (omega (arith, l .inv .1)) in
+    (omega arith, paste-length _ (l .word) (part s (v .1 .0) (v .1 .0 + v .1 .1 .0)) (v .0) put (omega (arith, l .inv .1)) ∙ l .inv .1, walking-more (l .len) (l .word) _ w (omega (arith, l .inv .0, l .inv .1)) (c .before .before .before .before .before .before .before .before .before .before .before .before .before .before .before .before .loop-test .taken) e j a put)
 
 front-requires-4 : tie.Need-front-requires-4 Inv-loop μ-loop
 front-requires-4 c κs = tt
@@ -263,10 +262,11 @@ walk-spec =
     front-requires-3
     returns-5
     add-to
-    sub-put
-    part-put-start
-    part-put-end
-    put-requires
+    slice-aggregate-put-suffix
+    sub-put-suffix
+    part-put-suffix-start
+    part-put-suffix-end
+    put-suffix-requires
     add-len
     add-words
     loop-less

@@ -1,7 +1,7 @@
 -- The function meets its contract: each return is the test that led there.
 use native.Mathlib.Omega.{arith}
 use borrow.Author.Needs.{needs}
-use Rattle.common.proofs.Lists.{span-most}
+use Rattle.common.proofs.Runs.{span-most}
 use Rattle.tokenizer.specs.Word.{isWord}
 use Rattle.lexer.proofs.RunSteps.{stem-none, stem-plain, stem-longer, stem-last}
 use Rattle.lexer.proofs.is_stem.Statement.{statement}

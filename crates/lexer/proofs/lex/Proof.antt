@@ -1,13 +1,14 @@
--- The function meets its contract. The invariant: the state stands behind tokens of the query, and what is still to be
+-- The function meets its contract. The invariant: the state stands after tokens of the query, and what is still to be
 -- read is the rest.
 use Prim.Native.Nat.{_-_, _≤_}
 use mathlib.Core.Path.{sym, _∙_}
 use lib.ListN.{length}
 use borrow.Author.Tests.{not-true, not-false}
 use borrow.Author.Needs.{needs}
+use Rattle.common.proofs.Lists.{place-falls}
 use Rattle.offsets.specs.Cut.{cut}
 use Rattle.lexer.specs.Token.{maxQuery}
-use Rattle.lexer.proofs.LexLaws.{place-falls, Behind, behind-none, count-room, step-on, step-stops, too-many, all-told}
+use Rattle.lexer.proofs.LexLaws.{Behind, behind-none, count-room, step-on, step-stops, too-many, all-told}
 use Rattle.lexer.proofs.Answers.{answer-long, answers}
 use Rattle.lexer.proofs.lex.Statement.{statement}
 use Rattle.lexer.proofs.lex.Tie as tie

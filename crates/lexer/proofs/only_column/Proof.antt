@@ -1,6 +1,6 @@
 -- The function meets its contract: a bit below the 16th stays in 16 bits.
 use borrow.Author.Needs.{needs}
-use Rattle.lexer.proofs.Numbers.{one-bit}
+use Rattle.common.proofs.Bits.{one-bit}
 use Rattle.lexer.proofs.only_column.Statement.{statement}
 use Rattle.lexer.proofs.only_column.Tie as tie
 

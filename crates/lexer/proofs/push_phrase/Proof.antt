@@ -7,13 +7,13 @@ use lib.ListN.{length}
 use borrow.Author.Needs.{needs}
 use Rattle.tokenizer.specs.Word.{placesFrom}
 use Rattle.tokenizer.proofs.Laws.{found-bounds}
-use Rattle.lexer.specs.Filling.{pushAll}
+use Rattle.lexer.specs.Filling.{pushWords}
 use Rattle.lexer.proofs.PhraseSteps.{word-short, fewer-left, entriesFrom, found-pushed, overlong-pushed, nothing-pushed}
 use Rattle.lexer.proofs.push_phrase.Statement.{statement}
 use Rattle.lexer.proofs.push_phrase.Tie as tie
 
 abbrev Inv-loop : tie.InvT-loop
-Inv-loop s columns tie distance w₀ t₀ d₀ at₀ w t d at = pushAll w₀ (entriesFrom s columns tie distance 0) ≡ pushAll w (entriesFrom s columns t d at)
+Inv-loop s columns tie distance w₀ t₀ d₀ at₀ w t d at = pushWords w₀ (entriesFrom s columns tie distance 0) ≡ pushWords w (entriesFrom s columns t d at)
 
 abbrev μ-loop : tie.MeasureT-loop
 μ-loop s columns tie distance w₀ t₀ d₀ at₀ w t d at = length (placesFrom s at)

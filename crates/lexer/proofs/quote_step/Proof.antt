@@ -4,7 +4,7 @@ use mathlib.Core.Path.{sym, ap, _∙_}
 use lib.Seq.{length-take-le}
 use borrow.Author.Tests.{not-true, not-false}
 use borrow.Author.Needs.{needs}
-use Rattle.lexer.specs.Filling.{moved}
+use Rattle.lexer.specs.Filling.{movedOn}
 use Rattle.lexer.proofs.LexSteps.{quote-unclosed, quote-empty, quote-phrase}
 use Rattle.lexer.proofs.quote_step.Statement.{statement}
 use Rattle.lexer.proofs.quote_step.Tie as tie
@@ -18,7 +18,7 @@ stop-requires c κs = search needs
 returns : tie.Need-returns
 returns c =
     let a = c .before .before .before .before .args in
-    c .stop .ensures ∙ ap (moved (a .st)) (quote-unclosed (a .s .now) (c .before .before .stretch .result) (c .before .before .stretch .ensures) (c .before .if1 .taken))
+    c .stop .ensures ∙ ap (movedOn (a .st)) (quote-unclosed (a .s .now) (c .before .before .stretch .result) (c .before .before .stretch .ensures) (c .before .if1 .taken))
 
 slice-aggregate-inner : tie.Need-slice-aggregate-inner
 slice-aggregate-inner c = sym (length-take-le (c .before .before .stretch .result) (c .before .before .before .before .args .s .now) (le-of-lt (c .before .if1 .left)))
@@ -33,7 +33,7 @@ returns-2 : tie.Need-returns-2
 returns-2 c =
     let a = c .before .before .before .before .before .before .before .args in
     c .stop2 .ensures
-    ∙ ap (moved (a .st)) (quote-empty (a .s .now) (c .before .before .before .before .before .stretch .result) (c .before .before .before .before .before .stretch .ensures) (c .before .before .before .before .if1 .left) (sym (c .before .before .has-word .ensures) ∙ not-true (c .before .before .has-word .result) (c .before .if2 .taken)))
+    ∙ ap (movedOn (a .st)) (quote-empty (a .s .now) (c .before .before .before .before .before .stretch .result) (c .before .before .before .before .before .stretch .ensures) (c .before .before .before .before .if1 .left) (sym (c .before .before .has-word .ensures) ∙ not-true (c .before .before .has-word .result) (c .before .if2 .taken)))
 
 add-with-phrase : tie.Need-add-with-phrase
 add-with-phrase c = search needs
@@ -45,7 +45,7 @@ returns-3 : tie.Need-returns-3
 returns-3 c =
     let a = c .before .before .before .before .before .before .before .args in
     c .with-phrase .ensures
-    ∙ ap (moved (a .st)) (quote-phrase (a .s .now) (c .before .before .before .before .before .stretch .result) (c .before .before .before .before .before .stretch .ensures) (c .before .before .before .before .if1 .left) (sym (c .before .before .has-word .ensures) ∙ not-false (c .before .before .has-word .result) (c .before .if2 .left)))
+    ∙ ap (movedOn (a .st)) (quote-phrase (a .s .now) (c .before .before .before .before .before .stretch .result) (c .before .before .before .before .before .stretch .ensures) (c .before .before .before .before .if1 .left) (sym (c .before .before .has-word .ensures) ∙ not-false (c .before .before .has-word .result) (c .before .if2 .left)))
 
 pub quote-step-spec : {M : Type 1} → statement M
 quote-step-spec =

@@ -2,7 +2,7 @@
 use mathlib.Core.Path.{sym, ap, _∙_}
 use borrow.Author.Needs.{needs}
 use Rattle.offsets.specs.Cut.{cut}
-use Rattle.lexer.specs.Filling.{moved}
+use Rattle.lexer.specs.Filling.{movedOn}
 use Rattle.lexer.proofs.LexSteps.{operator-moved, run-word, run-column}
 use Rattle.lexer.proofs.run_step.Statement.{statement}
 use Rattle.lexer.proofs.run_step.Tie as tie
@@ -28,7 +28,7 @@ returns-2 : tie.Need-returns-2
 returns-2 c =
     let a = c .before .before .before .before .before .before .before .before .before .args in
     c .with-phrase .ensures
-    ∙ ap (moved (a .st)) (run-word (cut (a .names .now) (a .ends .now)) (a .s .now) (c .before .before .before .before .before .operator-of .result) (c .before .before .before .before .before .operator-of .ensures) (c .before .before .before .if1 .left) (sym (c .before .before .is-stem .ensures) ∙ c .before .if2 .taken))
+    ∙ ap (movedOn (a .st)) (run-word (cut (a .names .now) (a .ends .now)) (a .s .now) (c .before .before .before .before .before .operator-of .result) (c .before .before .before .before .before .operator-of .ensures) (c .before .before .before .if1 .left) (sym (c .before .before .is-stem .ensures) ∙ c .before .if2 .taken))
 
 column-step-requires : tie.Need-column-step-requires
 column-step-requires c κs = search needs
@@ -37,7 +37,7 @@ returns-3 : tie.Need-returns-3
 returns-3 c =
     let a = c .before .before .before .before .before .before .before .before .before .args in
     c .column-step .ensures
-    ∙ ap (moved (a .st)) (run-column (cut (a .names .now) (a .ends .now)) (a .s .now) (c .before .before .before .before .before .operator-of .result) (c .before .before .before .before .before .operator-of .ensures) (c .before .before .before .if1 .left) (sym (c .before .before .is-stem .ensures) ∙ c .before .if2 .left))
+    ∙ ap (movedOn (a .st)) (run-column (cut (a .names .now) (a .ends .now)) (a .s .now) (c .before .before .before .before .before .operator-of .result) (c .before .before .before .before .before .operator-of .ensures) (c .before .before .before .if1 .left) (sym (c .before .before .is-stem .ensures) ∙ c .before .if2 .left))
 
 pub run-step-spec : {M : Type 1} → statement M
 run-step-spec =

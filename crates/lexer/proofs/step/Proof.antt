@@ -6,7 +6,7 @@ use lib.ListN.{length, take, drop}
 use lib.Seq.{length-take-le}
 use borrow.Author.Needs.{needs}
 use Rattle.offsets.specs.Cut.{cut}
-use Rattle.lexer.specs.Filling.{pushAll, moved}
+use Rattle.lexer.specs.Filling.{pushWords, movedOn}
 use Rattle.lexer.proofs.LexSteps.{run-inside, run-fits, next-space, next-open, next-close, next-quote, next-run}
 use Rattle.lexer.proofs.step.Statement.{statement}
 use Rattle.lexer.proofs.step.Tie as tie
@@ -23,26 +23,26 @@ skip-requires c κs = search needs
 returns : tie.Need-returns
 returns c =
     let a = c .before .before .before .before .before .before .before .args in
-    c .skip .ensures ∙ ap (moved (a .st)) (next-space (cut (a .names .now) (a .ends .now)) (a .s .now) (a .st .at) (c .before .before .before .before .before .before .before .pre .1) (sym (c .before .before .is-space .ensures) ∙ c .before .if1 .taken))
+    c .skip .ensures ∙ ap (movedOn (a .st)) (next-space (cut (a .names .now) (a .ends .now)) (a .s .now) (a .st .at) (c .before .before .before .before .before .before .before .pre .1) (sym (c .before .before .is-space .ensures) ∙ c .before .if1 .taken))
 
 with-kind-requires : tie.Need-with-kind-requires
 with-kind-requires c κs = search needs
 
 returns-2 : tie.Need-returns-2
-unfolding pushAll
+unfolding pushWords
 returns-2 c =
     let a = c .before .before .before .before .before .before .before .before .args in
-    c .with-kind .ensures ∙ ap (moved (a .st)) (next-open (cut (a .names .now) (a .ends .now)) (a .s .now) (a .st .at) (c .before .before .before .before .before .before .before .before .pre .1) (sym (c .before .before .before .is-space .ensures) ∙ c .before .before .if1 .left) (c .before .if2 .taken))
+    c .with-kind .ensures ∙ ap (movedOn (a .st)) (next-open (cut (a .names .now) (a .ends .now)) (a .s .now) (a .st .at) (c .before .before .before .before .before .before .before .before .pre .1) (sym (c .before .before .before .is-space .ensures) ∙ c .before .before .if1 .left) (c .before .if2 .taken))
 
 with-kind-requires-2 : tie.Need-with-kind-requires-2
 with-kind-requires-2 c κs = search needs
 
 returns-3 : tie.Need-returns-3
-unfolding pushAll
+unfolding pushWords
 returns-3 c =
     let a = c .before .before .before .before .before .before .before .before .before .args in
     c .with-kind2 .ensures
-    ∙ ap (moved (a .st)) (next-close (cut (a .names .now) (a .ends .now)) (a .s .now) (a .st .at) (c .before .before .before .before .before .before .before .before .before .pre .1) (sym (c .before .before .before .before .is-space .ensures) ∙ c .before .before .before .if1 .left) (c .before .before .if2 .left) (c .before .if3 .taken))
+    ∙ ap (movedOn (a .st)) (next-close (cut (a .names .now) (a .ends .now)) (a .s .now) (a .st .at) (c .before .before .before .before .before .before .before .before .before .pre .1) (sym (c .before .before .before .before .is-space .ensures) ∙ c .before .before .before .if1 .left) (c .before .before .if2 .left) (c .before .if3 .taken))
 
 add-quote-step : tie.Need-add-quote-step
 add-quote-step c = search needs
@@ -63,7 +63,7 @@ returns-4 : tie.Need-returns-4
 returns-4 c =
     let a = c .before .before .before .before .before .before .before .before .before .before .before .args in
     c .quote-step .ensures
-    ∙ ap (moved (a .st)) (next-quote (cut (a .names .now) (a .ends .now)) (a .s .now) (a .st .at) (c .before .before .before .before .before .before .before .before .before .before .before .pre .1) (sym (c .before .before .before .before .before .before .is-space .ensures) ∙ c .before .before .before .before .before .if1 .left) (c .before .before .before .before .if2 .left) (c .before .before .before .if3 .left) (c .before .before .if4 .taken))
+    ∙ ap (movedOn (a .st)) (next-quote (cut (a .names .now) (a .ends .now)) (a .s .now) (a .st .at) (c .before .before .before .before .before .before .before .before .before .before .before .pre .1) (sym (c .before .before .before .before .before .before .is-space .ensures) ∙ c .before .before .before .before .before .if1 .left) (c .before .before .before .before .if2 .left) (c .before .before .before .if3 .left) (c .before .before .if4 .taken))
 
 sub-rest : tie.Need-sub-rest
 sub-rest c = search needs
@@ -92,7 +92,7 @@ returns-5 : tie.Need-returns-5
 returns-5 c =
     let a = c .before .before .before .before .before .before .before .before .before .before .before .before .before .args in
     c .run-step .ensures
-    ∙ ap (moved (a .st))
+    ∙ ap (movedOn (a .st))
     (next-run (cut (a .names .now) (a .ends .now)) (a .s .now) (a .st .at) (c .before .before .before .before .before .before .before .before .before .before .before .before .before .pre .1) (sym (c .before .before .before .before .before .before .before .before .is-space .ensures) ∙ c .before .before .before .before .before .before .before .if1 .left) (c .before .before .before .before .before .before .if2 .left) (c .before .before .before .before .before .if3 .left) (c .before .before .before .before .if4 .left) (c .before .before .stretch .result) (c .before .before .stretch .ensures))
 
 pub step-spec : {M : Type 1} → statement M

@@ -6,7 +6,7 @@ use lib.ListN.{length}
 use borrow.Author.Tests.{not-true, not-false}
 use borrow.Author.Needs.{needs}
 use Rattle.common.specs.Bytes.{span}
-use Rattle.tokenizer.proofs.General.{past, past-end, past-stop, past-more}
+use Rattle.common.proofs.Runs.{past, past-end, past-stop, past-more}
 use Rattle.lexer.specs.Filling.{inClass}
 use Rattle.lexer.proofs.stretch.Statement.{statement}
 use Rattle.lexer.proofs.stretch.Tie as tie

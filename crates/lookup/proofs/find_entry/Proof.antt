@@ -6,9 +6,10 @@ use borrow.Author.Tests.{not-true, not-false}
 use borrow.Author.Needs.{needs}
 use mir.Facts.{toZ-ofZ}
 use Rattle.common.proofs.Cases.{false-not-true}
+use Rattle.common.proofs.Numbers.{unsigned}
 use Rattle.leaf.specs.Answers.{CheckShape}
 use Rattle.lookup.specs.Entries.{DecidingShape, Decides}
-use Rattle.lookup.proofs.EntryLaws.{unsigned, refused-no-leaf, accepted-leaf, decides-claim, deciding-exact}
+use Rattle.lookup.proofs.EntryLaws.{refused-no-leaf, accepted-leaf, decides-claim, deciding-exact}
 use Rattle.lookup.proofs.find_entry.Statement.{statement}
 use Rattle.lookup.proofs.find_entry.Tie as tie
 

@@ -5,16 +5,16 @@ use mathlib.Core.Path.{_≡_, sym, _∙_}
 use lib.ListN.{length, drop}
 use borrow.Author.Tests.{not-true, not-false}
 use borrow.Author.Needs.{needs}
+use Rattle.common.proofs.Members.{every-fails, every-next, every-end}
 use Rattle.offsets.specs.Cut.{cut}
-use Rattle.offsets.specs.Names.{distinct}
-use Rattle.offsets.proofs.General.{every-fails, every-next, every-end}
+use Rattle.offsets.specs.Names.{allDistinct}
 use Rattle.offsets.proofs.Cuts.{in-cut, past-cut}
 use Rattle.offsets.proofs.NameLaws.{distinct-test}
 use Rattle.offsets.proofs.are_distinct.Statement.{statement}
 use Rattle.offsets.proofs.are_distinct.Tie as tie
 
 abbrev Inv-loop : tie.InvT-loop
-Inv-loop s ends i₀ i = (i ≤ length ends) × (distinct (drop i (cut s ends)) ≡ distinct (cut s ends))
+Inv-loop s ends i₀ i = (i ≤ length ends) × (allDistinct (drop i (cut s ends)) ≡ allDistinct (cut s ends))
 
 abbrev μ-loop : tie.MeasureT-loop
 μ-loop s ends i₀ i = length ends - i

@@ -5,8 +5,8 @@ use mathlib.Core.Path.{_≡_, sym, _∙_}
 use lib.ListN.{length, drop}
 use borrow.Author.Tests.{not-true, not-false}
 use borrow.Author.Needs.{needs}
+use Rattle.common.proofs.Members.{every-fails, every-next, every-end}
 use Rattle.offsets.specs.Names.{nameBytes}
-use Rattle.offsets.proofs.General.{every-fails, every-next, every-end}
 use Rattle.offsets.proofs.NameLaws.{byte-test}
 use Rattle.offsets.proofs.has_name_bytes.Statement.{statement}
 use Rattle.offsets.proofs.has_name_bytes.Tie as tie

@@ -5,9 +5,9 @@ use mathlib.Core.Path.{_≡_, sym, ap, _∙_}
 use lib.ListN.{length, drop}
 use borrow.Author.Tests.{not-true, not-false}
 use borrow.Author.Needs.{needs}
+use Rattle.common.proofs.Members.{every-fails, every-next, every-end}
 use Rattle.offsets.specs.Cut.{cut}
 use Rattle.offsets.specs.Names.{isName, eachName}
-use Rattle.offsets.proofs.General.{every-fails, every-next, every-end}
 use Rattle.offsets.proofs.Cuts.{in-cut, past-cut}
 use Rattle.offsets.proofs.NameLaws.{name-test}
 use Rattle.offsets.proofs.has_names.Statement.{statement}

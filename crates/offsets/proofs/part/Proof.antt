@@ -1,4 +1,4 @@
--- `part` meets its contract: an end behind the last byte is as good as the length, and a part that falls is empty.
+-- `part` meets its contract: an end after the last byte is as good as the length, and a part that falls is empty.
 use Prim.Native.Nat.{_-_}
 use native.Mathlib.Omega.{arith}
 use mathlib.Core.Path.{ap, _∙_}

@@ -1,6 +1,6 @@
 -- The functions of the four levels meet their contracts, and end: the depth that is left falls at a parenthesis, and
 -- the tokens that are left, then the level, at any other call. A loop's invariant: what the level makes of its tokens is
--- what it makes of those from `j` on, behind the left side whose codes are written.
+-- what it makes of those from `j` on, after the left side whose codes are written.
 use Prim.Native.Nat.{ℕ, _+_, _-_, _*_, _≤_, _<_}
 use native.Mathlib.Omega.{arith}
 use mathlib.Core.Path.{_≡_, sym, _∙_}

@@ -1,4 +1,4 @@
--- `query::chain` meets its contract. The loop's invariant: `j` lies behind the first operand and the links that were
+-- `query::chain` meets its contract. The loop's invariant: `j` lies after the first operand and the links that were
 -- read, within the row, and the chain so far goes on there.
 use Prim.Native.Nat.{_+_, _-_, _≤_, _<_}
 use native.Mathlib.Omega.{arith}

@@ -2,7 +2,7 @@
 use mathlib.Core.Path.{sym}
 use lib.ListN.{List·getD-eq-default}
 use borrow.Author.Needs.{needs}
-use Rattle.query.proofs.General.{getD-inside}
+use Rattle.common.proofs.Lists.{getD-inside}
 use Rattle.query.proofs.kind_at.Statement.{statement}
 use Rattle.query.proofs.kind_at.Tie as tie
 

@@ -1,7 +1,7 @@
 -- `query::push` meets its contract.
 use borrow.Author.Needs.{needs}
 use borrow.Author.Tests.{lt-ltb, le-ltb}
-use Rattle.query.specs.Kinds.{pushed}
+use Rattle.query.specs.Kinds.{pushCode}
 use Rattle.query.proofs.push.Statement.{statement}
 use Rattle.query.proofs.push.Tie as tie
 
@@ -12,11 +12,11 @@ add-more : tie.Need-add-more
 add-more c = search needs
 
 returns : tie.Need-returns
-unfolding pushed
+unfolding pushCode
 returns c = simp (lt-ltb _ _ (c .if1 .taken))
 
 returns-2 : tie.Need-returns-2
-unfolding pushed
+unfolding pushCode
 returns-2 c = simp (le-ltb _ _ (c .if1 .left))
 
 pub push-spec : {M : Type 1} → statement M

@@ -1,4 +1,4 @@
--- `advance` meets its contract: the next position of the hit, or the first one behind it.
+-- `advance` meets its contract: the next position of the hit, or the first one after it.
 use mathlib.Core.Path.{sym, _∙_}
 use borrow.Author.Needs.{needs}
 use Rattle.row.proofs.Rows.{next-kept}

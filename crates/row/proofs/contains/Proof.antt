@@ -3,12 +3,12 @@ use native.Mathlib.Omega.{arith}
 use mathlib.Core.Path.{sym}
 use lib.ListN.{set}
 use borrow.Author.Needs.{needs}
-use Rattle.row.proofs.General.{allows-past}
+use Rattle.common.proofs.Bits.{contains-past}
 use Rattle.row.proofs.contains.Statement.{statement}
 use Rattle.row.proofs.contains.Tie as tie
 
 returns : tie.Need-returns
-returns c = sym (allows-past (c .before .args .set) (c .before .args .i) (omega arith) (c .if1 .taken))
+returns c = sym (contains-past (c .before .args .set) (c .before .args .i) (omega arith) (c .if1 .taken))
 
 cast-result : tie.Need-cast-result
 cast-result c = search needs

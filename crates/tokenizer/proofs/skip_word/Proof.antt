@@ -5,8 +5,8 @@ use native.Mathlib.Omega.{arith}
 use mathlib.Core.Path.{_≡_, refl, sym, _∙_}
 use lib.ListN.{length}
 use borrow.Author.Needs.{needs}
+use Rattle.common.proofs.Runs.{past, past-end, past-stop, past-more}
 use Rattle.tokenizer.specs.Word.{isWord}
-use Rattle.tokenizer.proofs.General.{past, past-end, past-stop, past-more}
 use Rattle.tokenizer.proofs.skip_word.Statement.{statement}
 use Rattle.tokenizer.proofs.skip_word.Tie as tie
 

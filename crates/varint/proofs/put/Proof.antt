@@ -2,19 +2,19 @@
 -- those of `rest`. The measure is `rest`.
 use native.Mathlib.Omega.{arith}
 use borrow.Author.Needs.{needs}
-use Rattle.varint.specs.Varint.{maxBytes}
+use Rattle.varint.specs.Varint.{maxVarint}
 use Rattle.varint.proofs.Writing.{Begun, begin, begun-within, begun-more, begun-last}
 use Rattle.varint.proofs.put.Statement.{statement}
 use Rattle.varint.proofs.put.Tie as tie
 
 abbrev Inv-loop : tie.InvT-loop
-Inv-loop room₀ v rest₀ i₀ room rest i = Begun maxBytes v room₀ i rest room
+Inv-loop room₀ v rest₀ i₀ room rest i = Begun maxVarint v room₀ i rest room
 
 abbrev μ-loop : tie.MeasureT-loop
 μ-loop room₀ v rest₀ i₀ room rest i = rest
 
 loop-holds : tie.Need-loop-holds Inv-loop μ-loop
-loop-holds c = begin maxBytes (c .args .v) (c .args .room .now) (omega arith) (c .pre .0)
+loop-holds c = begin maxVarint (c .args .v) (c .args .room .now) (omega arith) (c .pre .0)
 
 add-room : tie.Need-add-room Inv-loop μ-loop
 add-room c = search needs

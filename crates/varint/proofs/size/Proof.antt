@@ -4,19 +4,19 @@ use native.Mathlib.Omega.{arith}
 use borrow.Author.Needs.{needs}
 use borrow.Author.Tests.{ltb-true, ltb-false}
 use mathlib.Core.Path.{sym}
-use Rattle.varint.specs.Varint.{maxBytes}
+use Rattle.varint.specs.Varint.{maxVarint}
 use Rattle.varint.proofs.Writing.{AtByte, first-byte, next-byte, last-byte, full}
 use Rattle.varint.proofs.size.Statement.{statement}
 use Rattle.varint.proofs.size.Tie as tie
 
 abbrev Inv-loop : tie.InvT-loop
-Inv-loop v rest₀ n₀ rest n = AtByte maxBytes v n rest
+Inv-loop v rest₀ n₀ rest n = AtByte maxVarint v n rest
 
 abbrev μ-loop : tie.MeasureT-loop
 μ-loop v rest₀ n₀ rest n = rest
 
 loop-holds : tie.Need-loop-holds Inv-loop μ-loop
-loop-holds c = first-byte maxBytes (c .args .v) (omega arith)
+loop-holds c = first-byte maxVarint (c .args .v) (omega arith)
 
 add-n : tie.Need-add-n Inv-loop μ-loop
 add-n c = search needs
@@ -27,12 +27,12 @@ loop-less c = search needs
 loop-again : tie.Need-loop-again Inv-loop μ-loop
 loop-again c =
     let l = c .before .before .loop in
-    next-byte (l .inv) (ltb-true (l .n) maxBytes (c .if1 .taken)) (omega arith)
+    next-byte (l .inv) (ltb-true (l .n) maxVarint (c .if1 .taken)) (omega arith)
 
 returns : tie.Need-returns Inv-loop μ-loop
 returns c =
     let l = c .before .before .loop in
-    sym (full (l .inv) (ltb-false (l .n) maxBytes (c .if1 .left)))
+    sym (full (l .inv) (ltb-false (l .n) maxVarint (c .if1 .left)))
 
 returns-2 : tie.Need-returns-2 Inv-loop μ-loop
 returns-2 c = sym (last-byte (c .before .loop .inv) (omega arith))

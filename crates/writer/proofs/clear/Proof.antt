@@ -5,7 +5,7 @@ use mathlib.Core.Path.{_≡_, ap, _∙_}
 use mathlib.Core.List.{_++_}
 use lib.ListN.{length, drop, replicate, set}
 use borrow.Author.Fill.{fill-more}
-use Rattle.writer.proofs.General.{fill-all}
+use Rattle.common.proofs.Rooms.{fill-all}
 use borrow.Author.Needs.{needs}
 use Rattle.writer.proofs.clear.Statement.{statement}
 use Rattle.writer.proofs.clear.Tie as tie
@@ -41,7 +41,8 @@ returns : tie.Need-returns Inv-loop μ-loop
 returns c =
     let l = c .before .loop in
     let z = c .before .before in
-    l .inv .2 ∙ fill-all (z .args .room .now) (l .i) (omega (arith, l .inv .0, l .inv .1, c .loop-test .left))
+    let e : l .i ≡ length (z .args .room .now) = omega (arith, l .inv .0, l .inv .1, c .loop-test .left) in
+    l .inv .2 ∙ rw e (fill-all 0 (z .args .room .now))
 
 pub clear-spec : {M : Type 1} → statement M
 clear-spec =

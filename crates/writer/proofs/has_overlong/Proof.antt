@@ -7,8 +7,8 @@ use mathlib.Core.List.{map}
 use lib.ListN.{length}
 use Rattle.tokenizer.specs.Word.{placesFrom, wordAt, wordsOf}
 use Rattle.tokenizer.proofs.Laws.{found-bounds, nothing-first}
+use Rattle.tokenizer.proofs.Runs.{places-end}
 use Rattle.writer.specs.Answers.{hasOverlong}
-use Rattle.writer.proofs.Gathering.{none-behind}
 use Rattle.writer.proofs.Answering.{passes-short, finds-overlong, finds-none}
 use borrow.Author.Needs.{needs}
 use Rattle.writer.proofs.has_overlong.Statement.{statement}
@@ -61,7 +61,7 @@ returns-3 : tie.Need-returns-3 Inv-loop μ-loop
 returns-3 c =
     let s = c .before .before .before .args .text .now in
     let l = c .before .loop in
-    finds-none s (l .at) (none-behind s (l .at) (c .loop-test .left)) ∙ l .inv
+    finds-none s (l .at) (places-end s (l .at) (c .loop-test .left)) ∙ l .inv
 
 pub has-overlong-spec : {M : Type 1} → statement M
 has-overlong-spec =

@@ -1,11 +1,11 @@
 -- `signed_of` meets its contract: from 2^63 on, 2^64 - 1 - k stands for -1 - k.
 use mathlib.Core.Path.{_≡_, refl, sym, ap, subst, _∙_}
-use Prim.Native.Nat.{ℕ, zero, suc, _-_, _≤_, _<_, _^_}
+use Prim.Native.Nat.{ℕ, zero, suc, _-_, _<_, _^_}
 use native.Mathlib.Omega.{arith}
 use native.Mathlib.Nat.{zero-add}
 use lib.IntN.{pos, negsuc, _-ℤ_}
 use mir.Syntax.{w64}
-use mir.Val.{Fits, SFits, toZ, ofZ}
+use mir.Val.{SFits, toZ, ofZ}
 use mir.Facts.{toZ-ofZ, toZ-pos, toZ-neg}
 use borrow.Author.Needs.{needs}
 use Rattle.cases.proofs.exchange.signed_of.Statement.{statement}

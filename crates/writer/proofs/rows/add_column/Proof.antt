@@ -5,8 +5,9 @@ use native.Mathlib.Omega.{arith}
 use mathlib.Core.Path.{sym, subst, _∙_}
 use lib.ListN.{length}
 use Rattle.tokenizer.proofs.Laws.{found-bounds}
-use Rattle.writer.specs.Rows.{Inside}
-use Rattle.writer.proofs.Gathering.{Adding, adding-none, adding-last, adding-fits, adding-inside, adding-more, no-more, none-behind, words-most}
+use Rattle.tokenizer.proofs.Runs.{places-end}
+use Rattle.writer.specs.Rows.{RowInside}
+use Rattle.writer.proofs.Gathering.{Adding, adding-none, adding-last, adding-fits, adding-inside, adding-more, no-more, words-most}
 use borrow.Author.Needs.{needs}
 use Rattle.writer.proofs.rows.add_column.Statement.{statement}
 use Rattle.writer.proofs.rows.add_column.Tie as tie
@@ -88,7 +89,7 @@ insert-requires c κs =
     let w = c .before .before .before .start .given in
     let q = sym (c .before .before .before .before .before .next-word .ensures .0) ∙ w .1 in
     let f = adding-fits (z .args .text .now) (z .args .base) (z .args .column) (z .args .folded .now) (z .args .rows .now) (z .args .n) (z .pre) (l .rows) (l .at) (l .position) (l .inv) (w .0 .0) (w .0 .1 .0) q in
-    (f .1, l .inv .inside, subst (Inside (length (z .args .folded .now))) (sym (c .row .ensures)) (adding-inside (z .args .text .now) (z .args .base) (z .args .column) (z .args .folded .now) (z .args .rows .now) (z .args .n) (z .pre) (l .rows) (l .at) (l .position) (l .inv) (w .0 .0) (w .0 .1 .0) q))
+    (f .1, l .inv .inside, subst (RowInside (length (z .args .folded .now))) (sym (c .row .ensures)) (adding-inside (z .args .text .now) (z .args .base) (z .args .column) (z .args .folded .now) (z .args .rows .now) (z .args .n) (z .pre) (l .rows) (l .at) (l .position) (l .inv) (w .0 .0) (w .0 .1 .0) q))
 
 add-position : tie.Need-add-position Inv-loop μ-loop
 add-position c =
@@ -131,7 +132,7 @@ returns-2 c =
     let z = c .before .before .before .before .before in
     let l = c .before .loop in
     adding-last (z .args .text .now) (z .args .base) (z .args .column) (z .args .folded .now) (z .args .rows .now) (z .args .n) (z .pre) (l .rows) (l .at) (l .position) (l .inv)
-    (none-behind (z .args .text .now) (l .at) (c .loop-test .left))
+    (places-end (z .args .text .now) (l .at) (c .loop-test .left))
 
 pub add-column-spec : {M : Type 1} → statement M
 add-column-spec =

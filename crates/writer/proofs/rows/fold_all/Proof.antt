@@ -6,8 +6,8 @@ use mathlib.Core.Path.{_≡_}
 use mathlib.Core.List.{map}
 use lib.ListN.{length, take}
 use Rattle.common.specs.Bytes.{over}
+use Rattle.common.proofs.Rooms.{over-map-next, over-map-all}
 use Rattle.tokenizer.specs.Word.{fold}
-use Rattle.writer.proofs.General.{map-next, map-all}
 use borrow.Author.Needs.{needs}
 use Rattle.writer.proofs.rows.fold_all.Statement.{statement}
 use Rattle.writer.proofs.rows.fold_all.Tie as tie
@@ -40,7 +40,7 @@ loop-again : tie.Need-loop-again Inv-loop μ-loop
 loop-again c =
     let l = c .before .before .before .loop in
     let z = c .before .before .before .before .before .before in
-    (search needs, map-next fold (z .args .texts .now) (z .args .folded .now) (l .folded) (l .i) (c .folded .result) (omega arith) (z .pre) (l .inv .1) (c .folded .ensures))
+    (search needs, over-map-next fold (z .args .texts .now) (z .args .folded .now) (l .folded) (l .i) (c .folded .result) (omega arith) (z .pre) (l .inv .1) (c .folded .ensures))
 
 same-length : tie.Need-same-length Inv-loop μ-loop
 same-length c = search needs
@@ -49,7 +49,7 @@ returns : tie.Need-returns Inv-loop μ-loop
 returns c =
     let l = c .before .loop in
     let z = c .before .before .before .before in
-    map-all fold (z .args .texts .now) (z .args .folded .now) (l .folded) (l .i) (c .loop-test .left) (l .inv .1)
+    over-map-all fold (z .args .texts .now) (z .args .folded .now) (l .folded) (l .i) (c .loop-test .left) (l .inv .1)
 
 pub fold-all-spec : {M : Type 1} → statement M
 fold-all-spec =

@@ -1,11 +1,11 @@
 -- `place` meets its contract. The loop's invariant: the run of rows that are passed goes on from `i`. The measure is what
 -- is left of the rows.
-use Prim.Native.Nat.{_-_, _≤_}
+use Prim.Native.Nat.{_-_}
 use native.Mathlib.Omega.{arith}
 use mathlib.Core.Path.{_≡_, sym, _∙_}
 use lib.ListN.{length, getD}
 use Rattle.common.specs.Bytes.{span}
-use Rattle.tokenizer.proofs.General.{past, past-end, past-stop, past-more}
+use Rattle.common.proofs.Runs.{past, past-end, past-stop, past-more}
 use Rattle.writer.specs.Rows.{notBefore}
 use Rattle.writer.proofs.Inserting.{place-found, place-passed}
 use borrow.Author.Needs.{needs}
@@ -30,14 +30,14 @@ shared-slice-read-word-of c = search needs
 word-of-requires : tie.Need-word-of-requires Inv-loop μ-loop
 word-of-requires c κs = c .before .before .before .before .before .before .pre (c .before .before .loop .i) (omega arith)
 
-is-earlier-requires : tie.Need-is-earlier-requires Inv-loop μ-loop
-is-earlier-requires c κs = search needs
+is-before-requires : tie.Need-is-before-requires Inv-loop μ-loop
+is-before-requires c κs = search needs
 
 returns : tie.Need-returns Inv-loop μ-loop
 returns c =
     let l = c .before .before .before .before .before in
     let a = c .before .before .before .before .before .before .before .before .before .args in
-    let f = place-found (a .folded .now) (a .w .now) (c .before .before .word-of .result .now) (getD (a .rows .now) (l .loop .i) 0) (c .before .is-earlier .result) (c .before .is-earlier .ensures) (c .before .before .word-of .ensures) (c .if1 .taken) in
+    let f = place-found (a .folded .now) (a .w .now) (c .before .before .word-of .result .now) (getD (a .rows .now) (l .loop .i) 0) (c .before .is-before .result) (c .before .is-before .ensures) (c .before .before .word-of .ensures) (c .if1 .taken) in
     sym (past-stop (notBefore (a .folded .now) (a .w .now)) (a .rows .now) (l .loop .i) (omega arith) f) ∙ l .loop .inv
 
 add-i : tie.Need-add-i Inv-loop μ-loop
@@ -50,7 +50,7 @@ loop-again : tie.Need-loop-again Inv-loop μ-loop
 loop-again c =
     let l = c .before .before .before .before .before in
     let a = c .before .before .before .before .before .before .before .before .before .args in
-    let f = place-passed (a .folded .now) (a .w .now) (c .before .before .word-of .result .now) (getD (a .rows .now) (l .loop .i) 0) (c .before .is-earlier .result) (c .before .is-earlier .ensures) (c .before .before .word-of .ensures) (c .if1 .left) in
+    let f = place-passed (a .folded .now) (a .w .now) (c .before .before .word-of .result .now) (getD (a .rows .now) (l .loop .i) 0) (c .before .is-before .result) (c .before .is-before .ensures) (c .before .before .word-of .ensures) (c .if1 .left) in
     sym (past-more (notBefore (a .folded .now) (a .w .now)) (a .rows .now) (l .loop .i) (omega arith) f) ∙ l .loop .inv
 
 returns-2 : tie.Need-returns-2 Inv-loop μ-loop
@@ -68,7 +68,7 @@ place-spec =
     mul-word-of
     shared-slice-read-word-of
     word-of-requires
-    is-earlier-requires
+    is-before-requires
     returns
     add-i
     loop-less

@@ -3,7 +3,7 @@
 use Prim.Native.Nat.{_+_, _-_}
 use native.Mathlib.Omega.{arith}
 use mathlib.Core.Path.{_≡_, ap}
-use lib.ListN.{length, drop, getD, length-append}
+use lib.ListN.{length, drop, length-append}
 use Rattle.varint.specs.Varint.{encode}
 use Rattle.doclist.specs.Doclist.{encodeAll}
 use Rattle.writer.specs.Stored.{numbersFrom, listBytes, Rises}

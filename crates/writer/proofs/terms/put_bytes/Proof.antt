@@ -6,7 +6,7 @@ use mathlib.Core.Path.{_≡_, ap, _∙_}
 use lib.ListN.{length, getD, take, set}
 use lib.Seq.{take-all}
 use Rattle.common.specs.Bytes.{over}
-use Rattle.writer.proofs.General.{over-take}
+use Rattle.common.proofs.Rooms.{over-take}
 use borrow.Author.Needs.{needs}
 use Rattle.writer.proofs.terms.put_bytes.Statement.{statement}
 use Rattle.writer.proofs.terms.put_bytes.Tie as tie

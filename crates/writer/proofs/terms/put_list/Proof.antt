@@ -48,7 +48,7 @@ end-fits c =
     let l = c .before .loop in
     omega (arith, left (c .before), ap length (rises-end (l .last) (c .before .before .before .before .before .before .before .before .args .rows .now) (l .i) (c .loop-test .left)))
 
--- the closing 0 stands behind the rows
+-- the closing 0 stands after the rows
 closed : (c : tie.After-put-number2 Inv-loop μ-loop) → Wrote (c .before .before .before .before .before .before .put-number .last .0)
     (take (c .before .before .before .loop .at) (c .before .before .before .loop .out) ++ (c .put-number2 .last .0 ++ drop (length (c .before .before .before .loop .out) - c .before .before .before .loop .at) (drop (c .before .before .before .loop .at) (c .before .before .before .loop .out))))
     (c .before .before .before .loop .inv .0 ++ encode 0) (c .before .before .before .loop .at + c .put-number2 .result)

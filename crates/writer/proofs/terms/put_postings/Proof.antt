@@ -1,7 +1,6 @@
--- `put_postings` meets its contract: the length of the list, and behind it the list.
-use Prim.Native.Nat.{_≤_}
+-- `put_postings` meets its contract: the length of the list, and after it the list.
 use native.Mathlib.Omega.{arith}
-use mathlib.Core.Path.{sym, ap, _∙_}
+use mathlib.Core.Path.{ap, _∙_}
 use lib.ListN.{length}
 use Rattle.common.specs.Bytes.{over}
 use Rattle.varint.specs.Varint.{encode}

@@ -1,7 +1,7 @@
--- `put_row` meets its contract: the numbers of the row one behind the other, by whether its column is the one before it.
+-- `put_row` meets its contract: the numbers of the row one after the other, by whether its column is the one before it.
 use Prim.Native.Nat.{_+_, _-_, _≤_}
 use native.Mathlib.Omega.{arith}
-use mathlib.Core.Path.{_≡_, sym, ap, subst, _∙_}
+use mathlib.Core.Path.{_≡_, sym, ap, _∙_}
 use mathlib.Core.List.{_++_}
 use lib.ListN.{length, take, drop, length-append}
 use Rattle.common.specs.Bytes.{over}

@@ -1,4 +1,4 @@
--- `put_sized` meets its contract: the length, and behind it the bytes.
+-- `put_sized` meets its contract: the length, and after it the bytes.
 use native.Mathlib.Omega.{arith}
 use mathlib.Core.Path.{refl}
 use lib.ListN.{length, length-append}

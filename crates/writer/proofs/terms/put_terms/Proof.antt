@@ -7,7 +7,7 @@ use mathlib.Core.List.{List, [], _++_, append-assoc, append-nil}
 use lib.ListN.{length, getD, take, drop, length-append}
 use Rattle.common.specs.Bytes.{over}
 use Rattle.leaf.specs.Leaf.{sized}
-use Rattle.writer.specs.Rows.{wordOf}
+use Rattle.writer.specs.Rows.{rowWord}
 use Rattle.writer.specs.Stored.{listBytes, wordBytes, termsFrom, termsOf}
 use Rattle.writer.proofs.TermLaws.{AtRun, runs-start, runs-end, run-inside, run-within, run-rows, runs-next, runs-term}
 use Rattle.writer.proofs.Writing.{Wrote, wrote-length, wrote-within, wrote-free, wrote-more}
@@ -25,40 +25,40 @@ abbrev μ-loop : tie.MeasureT-loop
 within : (c : tie.After-run Inv-loop μ-loop) → (0 < c .run .result) × (c .before .before .before .before .before .loop .i + c .run .result ≤ length (c .before .before .before .before .before .before .before .before .before .args .rows .now))
 within c = run-within (c .before .before .before .before .before .before .before .before .before .args .folded .now) (c .before .before .before .before .before .before .before .before .before .args .rows .now) (c .before .before .before .before .before .before .before .before .before .pre .1) (c .before .before .before .before .before .loop .last) (c .before .before .before .before .before .loop .i) (c .before .before .before .before .before .loop .inv .0) (c .before .before .before .before .before .loop .inv .2) (c .before .before .before .before .loop-test .taken) (c .before .before .word-of .result .now) (c .run .result) (c .before .before .word-of .ensures) (c .run .ensures)
 
--- what is written, the run's word and list, and the terms behind it
-parts : (c : tie.After-run Inv-loop μ-loop) → ((c .before .before .before .before .before .loop .inv .1 ++ (wordBytes (wordOf (c .before .before .before .before .before .before .before .before .before .args .folded .now) (c .before .before .before .before .before .loop .last)) (c .before .before .word-of .result .now))) ++ (sized (listBytes (c .before .before .before .before .before .before .before .before .before .args .docid) (take (c .before .before .before .before .before .loop .i + c .run .result - c .before .before .before .before .before .loop .i) (drop (c .before .before .before .before .before .loop .i) (c .before .before .before .before .before .before .before .before .before .args .rows .now)))))) ++ (termsFrom (c .before .before .before .before .before .loop .inv .0 - 1) (c .before .before .before .before .before .before .before .before .before .args .folded .now) (c .before .before .before .before .before .before .before .before .before .args .docid) (getD (c .before .before .before .before .before .before .before .before .before .args .rows .now) (c .before .before .before .before .before .loop .i) 0) (drop (c .before .before .before .before .before .loop .i + c .run .result) (c .before .before .before .before .before .before .before .before .before .args .rows .now))) ≡ termsOf (c .before .before .before .before .before .before .before .before .before .args .folded .now) (c .before .before .before .before .before .before .before .before .before .args .docid) (c .before .before .before .before .before .before .before .before .before .args .rows .now)
+-- what is written, the run's word and list, and the terms after it
+parts : (c : tie.After-run Inv-loop μ-loop) → ((c .before .before .before .before .before .loop .inv .1 ++ (wordBytes (rowWord (c .before .before .before .before .before .before .before .before .before .args .folded .now) (c .before .before .before .before .before .loop .last)) (c .before .before .word-of .result .now))) ++ (sized (listBytes (c .before .before .before .before .before .before .before .before .before .args .docid) (take (c .before .before .before .before .before .loop .i + c .run .result - c .before .before .before .before .before .loop .i) (drop (c .before .before .before .before .before .loop .i) (c .before .before .before .before .before .before .before .before .before .args .rows .now)))))) ++ (termsFrom (c .before .before .before .before .before .loop .inv .0 - 1) (c .before .before .before .before .before .before .before .before .before .args .folded .now) (c .before .before .before .before .before .before .before .before .before .args .docid) (getD (c .before .before .before .before .before .before .before .before .before .args .rows .now) (c .before .before .before .before .before .loop .i) 0) (drop (c .before .before .before .before .before .loop .i + c .run .result) (c .before .before .before .before .before .before .before .before .before .args .rows .now))) ≡ termsOf (c .before .before .before .before .before .before .before .before .before .args .folded .now) (c .before .before .before .before .before .before .before .before .before .args .docid) (c .before .before .before .before .before .before .before .before .before .args .rows .now)
 parts c =
     let l = c .before .before .before .before .before .loop in
-    ap (λ x. x ++ (termsFrom (c .before .before .before .before .before .loop .inv .0 - 1) (c .before .before .before .before .before .before .before .before .before .args .folded .now) (c .before .before .before .before .before .before .before .before .before .args .docid) (getD (c .before .before .before .before .before .before .before .before .before .args .rows .now) (c .before .before .before .before .before .loop .i) 0) (drop (c .before .before .before .before .before .loop .i + c .run .result) (c .before .before .before .before .before .before .before .before .before .args .rows .now)))) (append-assoc (l .inv .1) (wordBytes (wordOf (c .before .before .before .before .before .before .before .before .before .args .folded .now) (c .before .before .before .before .before .loop .last)) (c .before .before .word-of .result .now)) (sized (listBytes (c .before .before .before .before .before .before .before .before .before .args .docid) (take (c .before .before .before .before .before .loop .i + c .run .result - c .before .before .before .before .before .loop .i) (drop (c .before .before .before .before .before .loop .i) (c .before .before .before .before .before .before .before .before .before .args .rows .now))))))
-    ∙ append-assoc (l .inv .1) ((wordBytes (wordOf (c .before .before .before .before .before .before .before .before .before .args .folded .now) (c .before .before .before .before .before .loop .last)) (c .before .before .word-of .result .now)) ++ (sized (listBytes (c .before .before .before .before .before .before .before .before .before .args .docid) (take (c .before .before .before .before .before .loop .i + c .run .result - c .before .before .before .before .before .loop .i) (drop (c .before .before .before .before .before .loop .i) (c .before .before .before .before .before .before .before .before .before .args .rows .now)))))) (termsFrom (c .before .before .before .before .before .loop .inv .0 - 1) (c .before .before .before .before .before .before .before .before .before .args .folded .now) (c .before .before .before .before .before .before .before .before .before .args .docid) (getD (c .before .before .before .before .before .before .before .before .before .args .rows .now) (c .before .before .before .before .before .loop .i) 0) (drop (c .before .before .before .before .before .loop .i + c .run .result) (c .before .before .before .before .before .before .before .before .before .args .rows .now)))
+    ap (λ x. x ++ (termsFrom (c .before .before .before .before .before .loop .inv .0 - 1) (c .before .before .before .before .before .before .before .before .before .args .folded .now) (c .before .before .before .before .before .before .before .before .before .args .docid) (getD (c .before .before .before .before .before .before .before .before .before .args .rows .now) (c .before .before .before .before .before .loop .i) 0) (drop (c .before .before .before .before .before .loop .i + c .run .result) (c .before .before .before .before .before .before .before .before .before .args .rows .now)))) (append-assoc (l .inv .1) (wordBytes (rowWord (c .before .before .before .before .before .before .before .before .before .args .folded .now) (c .before .before .before .before .before .loop .last)) (c .before .before .word-of .result .now)) (sized (listBytes (c .before .before .before .before .before .before .before .before .before .args .docid) (take (c .before .before .before .before .before .loop .i + c .run .result - c .before .before .before .before .before .loop .i) (drop (c .before .before .before .before .before .loop .i) (c .before .before .before .before .before .before .before .before .before .args .rows .now))))))
+    ∙ append-assoc (l .inv .1) ((wordBytes (rowWord (c .before .before .before .before .before .before .before .before .before .args .folded .now) (c .before .before .before .before .before .loop .last)) (c .before .before .word-of .result .now)) ++ (sized (listBytes (c .before .before .before .before .before .before .before .before .before .args .docid) (take (c .before .before .before .before .before .loop .i + c .run .result - c .before .before .before .before .before .loop .i) (drop (c .before .before .before .before .before .loop .i) (c .before .before .before .before .before .before .before .before .before .args .rows .now)))))) (termsFrom (c .before .before .before .before .before .loop .inv .0 - 1) (c .before .before .before .before .before .before .before .before .before .args .folded .now) (c .before .before .before .before .before .before .before .before .before .args .docid) (getD (c .before .before .before .before .before .before .before .before .before .args .rows .now) (c .before .before .before .before .before .loop .i) 0) (drop (c .before .before .before .before .before .loop .i + c .run .result) (c .before .before .before .before .before .before .before .before .before .args .rows .now)))
     ∙ ap (λ x. l .inv .1 ++ x) (sym (runs-term (c .before .before .before .before .before .before .before .before .before .args .folded .now) (c .before .before .before .before .before .before .before .before .before .args .rows .now) (c .before .before .before .before .before .before .before .before .before .pre .1) (c .before .before .before .before .before .loop .last) (c .before .before .before .before .before .loop .i) (c .before .before .before .before .before .loop .inv .0) (c .before .before .before .before .before .loop .inv .2) (c .before .before .before .before .loop-test .taken) (c .before .before .word-of .result .now) (c .run .result) (c .before .before .word-of .ensures) (c .run .ensures) (c .before .before .before .before .before .before .before .before .before .args .docid) (c .before .before .before .before .before .loop .i + c .run .result) refl))
     ∙ l .inv .4
 
 -- they fit
-fits : (c : tie.After-run Inv-loop μ-loop) → length (c .before .before .before .before .before .loop .inv .1) + length (wordBytes (wordOf (c .before .before .before .before .before .before .before .before .before .args .folded .now) (c .before .before .before .before .before .loop .last)) (c .before .before .word-of .result .now)) + length (sized (listBytes (c .before .before .before .before .before .before .before .before .before .args .docid) (take (c .before .before .before .before .before .loop .i + c .run .result - c .before .before .before .before .before .loop .i) (drop (c .before .before .before .before .before .loop .i) (c .before .before .before .before .before .before .before .before .before .args .rows .now))))) ≤ length (c .before .before .before .before .before .before .before .before .before .args .out .now)
+fits : (c : tie.After-run Inv-loop μ-loop) → length (c .before .before .before .before .before .loop .inv .1) + length (wordBytes (rowWord (c .before .before .before .before .before .before .before .before .before .args .folded .now) (c .before .before .before .before .before .loop .last)) (c .before .before .word-of .result .now)) + length (sized (listBytes (c .before .before .before .before .before .before .before .before .before .args .docid) (take (c .before .before .before .before .before .loop .i + c .run .result - c .before .before .before .before .before .loop .i) (drop (c .before .before .before .before .before .loop .i) (c .before .before .before .before .before .before .before .before .before .args .rows .now))))) ≤ length (c .before .before .before .before .before .before .before .before .before .args .out .now)
 fits c =
     let l = c .before .before .before .before .before .loop in
-    omega (arith, c .before .before .before .before .before .before .before .before .before .pre .2, ap length (parts c), length-append ((l .inv .1 ++ (wordBytes (wordOf (c .before .before .before .before .before .before .before .before .before .args .folded .now) (c .before .before .before .before .before .loop .last)) (c .before .before .word-of .result .now))) ++ (sized (listBytes (c .before .before .before .before .before .before .before .before .before .args .docid) (take (c .before .before .before .before .before .loop .i + c .run .result - c .before .before .before .before .before .loop .i) (drop (c .before .before .before .before .before .loop .i) (c .before .before .before .before .before .before .before .before .before .args .rows .now)))))) (termsFrom (c .before .before .before .before .before .loop .inv .0 - 1) (c .before .before .before .before .before .before .before .before .before .args .folded .now) (c .before .before .before .before .before .before .before .before .before .args .docid) (getD (c .before .before .before .before .before .before .before .before .before .args .rows .now) (c .before .before .before .before .before .loop .i) 0) (drop (c .before .before .before .before .before .loop .i + c .run .result) (c .before .before .before .before .before .before .before .before .before .args .rows .now))), length-append (l .inv .1 ++ (wordBytes (wordOf (c .before .before .before .before .before .before .before .before .before .args .folded .now) (c .before .before .before .before .before .loop .last)) (c .before .before .word-of .result .now))) (sized (listBytes (c .before .before .before .before .before .before .before .before .before .args .docid) (take (c .before .before .before .before .before .loop .i + c .run .result - c .before .before .before .before .before .loop .i) (drop (c .before .before .before .before .before .loop .i) (c .before .before .before .before .before .before .before .before .before .args .rows .now))))), length-append (l .inv .1) (wordBytes (wordOf (c .before .before .before .before .before .before .before .before .before .args .folded .now) (c .before .before .before .before .before .loop .last)) (c .before .before .word-of .result .now)))
+    omega (arith, c .before .before .before .before .before .before .before .before .before .pre .2, ap length (parts c), length-append ((l .inv .1 ++ (wordBytes (rowWord (c .before .before .before .before .before .before .before .before .before .args .folded .now) (c .before .before .before .before .before .loop .last)) (c .before .before .word-of .result .now))) ++ (sized (listBytes (c .before .before .before .before .before .before .before .before .before .args .docid) (take (c .before .before .before .before .before .loop .i + c .run .result - c .before .before .before .before .before .loop .i) (drop (c .before .before .before .before .before .loop .i) (c .before .before .before .before .before .before .before .before .before .args .rows .now)))))) (termsFrom (c .before .before .before .before .before .loop .inv .0 - 1) (c .before .before .before .before .before .before .before .before .before .args .folded .now) (c .before .before .before .before .before .before .before .before .before .args .docid) (getD (c .before .before .before .before .before .before .before .before .before .args .rows .now) (c .before .before .before .before .before .loop .i) 0) (drop (c .before .before .before .before .before .loop .i + c .run .result) (c .before .before .before .before .before .before .before .before .before .args .rows .now))), length-append (l .inv .1 ++ (wordBytes (rowWord (c .before .before .before .before .before .before .before .before .before .args .folded .now) (c .before .before .before .before .before .loop .last)) (c .before .before .word-of .result .now))) (sized (listBytes (c .before .before .before .before .before .before .before .before .before .args .docid) (take (c .before .before .before .before .before .loop .i + c .run .result - c .before .before .before .before .before .loop .i) (drop (c .before .before .before .before .before .loop .i) (c .before .before .before .before .before .before .before .before .before .args .rows .now))))), length-append (l .inv .1) (wordBytes (rowWord (c .before .before .before .before .before .before .before .before .before .args .folded .now) (c .before .before .before .before .before .loop .last)) (c .before .before .word-of .result .now)))
 
 -- the word stands in the room
 word : (c : tie.After-put-word Inv-loop μ-loop) → Wrote (c .before .before .before .before .before .before .before .before .before .before .before .before .args .out .now)
     (take (c .before .before .before .before .before .before .before .before .loop .at) (c .before .before .before .before .before .before .before .before .loop .out) ++ (c .put-word .last .0 ++ drop (length (c .before .before .before .before .before .before .before .before .loop .out) - (c .before .before .before .before .before .before .before .before .loop .at)) (drop (c .before .before .before .before .before .before .before .before .loop .at) (c .before .before .before .before .before .before .before .before .loop .out))))
-    (c .before .before .before .before .before .before .before .before .loop .inv .1 ++ (wordBytes (wordOf (c .before .before .before .before .before .before .before .before .before .before .before .before .args .folded .now) (c .before .before .before .before .before .before .before .before .loop .last)) (c .before .before .before .before .before .word-of .result .now))) (c .before .before .before .before .before .before .before .before .loop .at + c .put-word .result)
+    (c .before .before .before .before .before .before .before .before .loop .inv .1 ++ (wordBytes (rowWord (c .before .before .before .before .before .before .before .before .before .before .before .before .args .folded .now) (c .before .before .before .before .before .before .before .before .loop .last)) (c .before .before .before .before .before .word-of .result .now))) (c .before .before .before .before .before .before .before .before .loop .at + c .put-word .result)
 word c =
     let p = c .put-word in
     let room = take (length (c .before .before .before .before .before .before .before .before .loop .out) - c .before .before .before .before .before .before .before .before .loop .at) (drop (c .before .before .before .before .before .before .before .before .loop .at) (c .before .before .before .before .before .before .before .before .loop .out)) in
     let e = c .before .word-of2 .ensures in
-    wrote-more (c .before .before .before .before .before .before .before .before .loop .inv .3) (wordBytes (wordOf (c .before .before .before .before .before .before .before .before .before .before .before .before .args .folded .now) (c .before .before .before .before .before .before .before .before .loop .last)) (c .before .before .before .before .before .word-of .result .now)) (p .last .0) (p .result) (omega (arith, fits (c .before .before .before)))
+    wrote-more (c .before .before .before .before .before .before .before .before .loop .inv .3) (wordBytes (rowWord (c .before .before .before .before .before .before .before .before .before .before .before .before .args .folded .now) (c .before .before .before .before .before .before .before .before .loop .last)) (c .before .before .before .before .before .word-of .result .now)) (p .last .0) (p .result) (omega (arith, fits (c .before .before .before)))
     (p .ensures .0 ∙ ap (λ x. length (wordBytes x (c .before .before .before .before .before .word-of .result .now))) e)
     (p .ensures .1 ∙ ap (λ x. over (wordBytes x (c .before .before .before .before .before .word-of .result .now)) room) e)
 
-done-length : (c : tie.After-run Inv-loop μ-loop) → length (c .before .before .before .before .before .loop .inv .1 ++ (wordBytes (wordOf (c .before .before .before .before .before .before .before .before .before .args .folded .now) (c .before .before .before .before .before .loop .last)) (c .before .before .word-of .result .now))) ≡ length (c .before .before .before .before .before .loop .inv .1) + length (wordBytes (wordOf (c .before .before .before .before .before .before .before .before .before .args .folded .now) (c .before .before .before .before .before .loop .last)) (c .before .before .word-of .result .now))
-done-length c = length-append (c .before .before .before .before .before .loop .inv .1) (wordBytes (wordOf (c .before .before .before .before .before .before .before .before .before .args .folded .now) (c .before .before .before .before .before .loop .last)) (c .before .before .word-of .result .now))
+done-length : (c : tie.After-run Inv-loop μ-loop) → length (c .before .before .before .before .before .loop .inv .1 ++ (wordBytes (rowWord (c .before .before .before .before .before .before .before .before .before .args .folded .now) (c .before .before .before .before .before .loop .last)) (c .before .before .word-of .result .now))) ≡ length (c .before .before .before .before .before .loop .inv .1) + length (wordBytes (rowWord (c .before .before .before .before .before .before .before .before .before .args .folded .now) (c .before .before .before .before .before .loop .last)) (c .before .before .word-of .result .now))
+done-length c = length-append (c .before .before .before .before .before .loop .inv .1) (wordBytes (rowWord (c .before .before .before .before .before .before .before .before .before .args .folded .now) (c .before .before .before .before .before .loop .last)) (c .before .before .word-of .result .now))
 
--- and the list behind it
+-- and the list after it
 list : (c : tie.After-put-postings Inv-loop μ-loop) → Wrote (c .before .before .before .before .before .before .before .before .before .before .before .before .before .before .before .before .before .args .out .now)
     (take (c .before .before .before .before .before .before .before .before .before .before .before .before .before .loop .at + c .before .before .before .before .before .put-word .result) ((take (c .before .before .before .before .before .before .before .before .before .before .before .before .before .loop .at) (c .before .before .before .before .before .before .before .before .before .before .before .before .before .loop .out) ++ (c .before .before .before .before .before .put-word .last .0 ++ drop (length (c .before .before .before .before .before .before .before .before .before .before .before .before .before .loop .out) - (c .before .before .before .before .before .before .before .before .before .before .before .before .before .loop .at)) (drop (c .before .before .before .before .before .before .before .before .before .before .before .before .before .loop .at) (c .before .before .before .before .before .before .before .before .before .before .before .before .before .loop .out))))) ++ (c .put-postings .last .0 ++ drop (length ((take (c .before .before .before .before .before .before .before .before .before .before .before .before .before .loop .at) (c .before .before .before .before .before .before .before .before .before .before .before .before .before .loop .out) ++ (c .before .before .before .before .before .put-word .last .0 ++ drop (length (c .before .before .before .before .before .before .before .before .before .before .before .before .before .loop .out) - (c .before .before .before .before .before .before .before .before .before .before .before .before .before .loop .at)) (drop (c .before .before .before .before .before .before .before .before .before .before .before .before .before .loop .at) (c .before .before .before .before .before .before .before .before .before .before .before .before .before .loop .out))))) - (c .before .before .before .before .before .before .before .before .before .before .before .before .before .loop .at + c .before .before .before .before .before .put-word .result)) (drop (c .before .before .before .before .before .before .before .before .before .before .before .before .before .loop .at + c .before .before .before .before .before .put-word .result) ((take (c .before .before .before .before .before .before .before .before .before .before .before .before .before .loop .at) (c .before .before .before .before .before .before .before .before .before .before .before .before .before .loop .out) ++ (c .before .before .before .before .before .put-word .last .0 ++ drop (length (c .before .before .before .before .before .before .before .before .before .before .before .before .before .loop .out) - (c .before .before .before .before .before .before .before .before .before .before .before .before .before .loop .at)) (drop (c .before .before .before .before .before .before .before .before .before .before .before .before .before .loop .at) (c .before .before .before .before .before .before .before .before .before .before .before .before .before .loop .out))))))))
-    ((c .before .before .before .before .before .before .before .before .before .before .before .before .before .loop .inv .1 ++ (wordBytes (wordOf (c .before .before .before .before .before .before .before .before .before .before .before .before .before .before .before .before .before .args .folded .now) (c .before .before .before .before .before .before .before .before .before .before .before .before .before .loop .last)) (c .before .before .before .before .before .before .before .before .before .before .word-of .result .now))) ++ (sized (listBytes (c .before .before .before .before .before .before .before .before .before .before .before .before .before .before .before .before .before .args .docid) (take (c .before .before .before .before .before .before .before .before .before .before .before .before .before .loop .i + c .before .before .before .before .before .before .before .before .run .result - c .before .before .before .before .before .before .before .before .before .before .before .before .before .loop .i) (drop (c .before .before .before .before .before .before .before .before .before .before .before .before .before .loop .i) (c .before .before .before .before .before .before .before .before .before .before .before .before .before .before .before .before .before .args .rows .now)))))) (c .before .before .before .before .before .before .before .before .before .before .before .before .before .loop .at + c .before .before .before .before .before .put-word .result + c .put-postings .result)
+    ((c .before .before .before .before .before .before .before .before .before .before .before .before .before .loop .inv .1 ++ (wordBytes (rowWord (c .before .before .before .before .before .before .before .before .before .before .before .before .before .before .before .before .before .args .folded .now) (c .before .before .before .before .before .before .before .before .before .before .before .before .before .loop .last)) (c .before .before .before .before .before .before .before .before .before .before .word-of .result .now))) ++ (sized (listBytes (c .before .before .before .before .before .before .before .before .before .before .before .before .before .before .before .before .before .args .docid) (take (c .before .before .before .before .before .before .before .before .before .before .before .before .before .loop .i + c .before .before .before .before .before .before .before .before .run .result - c .before .before .before .before .before .before .before .before .before .before .before .before .before .loop .i) (drop (c .before .before .before .before .before .before .before .before .before .before .before .before .before .loop .i) (c .before .before .before .before .before .before .before .before .before .before .before .before .before .before .before .before .before .args .rows .now)))))) (c .before .before .before .before .before .before .before .before .before .before .before .before .before .loop .at + c .before .before .before .before .before .put-word .result + c .put-postings .result)
 list c =
     let p = c .put-postings in
     wrote-more (word (c .before .before .before .before .before)) (sized (listBytes (c .before .before .before .before .before .before .before .before .before .before .before .before .before .before .before .before .before .args .docid) (take (c .before .before .before .before .before .before .before .before .before .before .before .before .before .loop .i + c .before .before .before .before .before .before .before .before .run .result - c .before .before .before .before .before .before .before .before .before .before .before .before .before .loop .i) (drop (c .before .before .before .before .before .before .before .before .before .before .before .before .before .loop .i) (c .before .before .before .before .before .before .before .before .before .before .before .before .before .before .before .before .before .args .rows .now))))) (p .last .0) (p .result) (omega (arith, fits (c .before .before .before .before .before .before .before .before), done-length (c .before .before .before .before .before .before .before .before))) (p .ensures .0) (p .ensures .1)
@@ -110,7 +110,7 @@ word-of-requires-2 c κs = c .before .before .before .before .before .before .lo
 put-word-requires : tie.Need-put-word-requires Inv-loop μ-loop
 put-word-requires c κs =
     let l = c .before .before .before .before .before .before .before .loop in
-    let f = wrote-free (l .inv .3) (wordBytes (wordOf (c .before .before .before .before .before .before .before .before .before .before .before .args .folded .now) (c .before .before .before .before .before .before .before .loop .last)) (c .before .before .before .before .word-of .result .now)) (omega (arith, fits (c .before .before))) in
+    let f = wrote-free (l .inv .3) (wordBytes (rowWord (c .before .before .before .before .before .before .before .before .before .before .before .args .folded .now) (c .before .before .before .before .before .before .before .loop .last)) (c .before .before .before .before .word-of .result .now)) (omega (arith, fits (c .before .before))) in
     omega (arith, f, ap (λ x. length (wordBytes x (c .before .before .before .before .word-of .result .now))) (c .word-of2 .ensures))
 
 add-at : tie.Need-add-at Inv-loop μ-loop
@@ -158,7 +158,7 @@ loop-again : tie.Need-loop-again Inv-loop μ-loop
 loop-again c =
     let l = c .before .before .before .before .before .before .before .before .before .before .before .before .before .before .before .before .loop in (
       l .inv .0 - 1,
-      (l .inv .1 ++ (wordBytes (wordOf (c .before .before .before .before .before .before .before .before .before .before .before .before .before .before .before .before .before .before .before .before .args .folded .now) (c .before .before .before .before .before .before .before .before .before .before .before .before .before .before .before .before .loop .last)) (c .before .before .before .before .before .before .before .before .before .before .before .before .before .word-of .result .now))) ++ (sized (listBytes (c .before .before .before .before .before .before .before .before .before .before .before .before .before .before .before .before .before .before .before .before .args .docid) (take (c .before .before .before .before .before .before .before .before .before .before .before .before .before .before .before .before .loop .i + c .before .before .before .before .before .before .before .before .before .before .before .run .result - c .before .before .before .before .before .before .before .before .before .before .before .before .before .before .before .before .loop .i) (drop (c .before .before .before .before .before .before .before .before .before .before .before .before .before .before .before .before .loop .i) (c .before .before .before .before .before .before .before .before .before .before .before .before .before .before .before .before .before .before .before .before .args .rows .now))))),
+      (l .inv .1 ++ (wordBytes (rowWord (c .before .before .before .before .before .before .before .before .before .before .before .before .before .before .before .before .before .before .before .before .args .folded .now) (c .before .before .before .before .before .before .before .before .before .before .before .before .before .before .before .before .loop .last)) (c .before .before .before .before .before .before .before .before .before .before .before .before .before .word-of .result .now))) ++ (sized (listBytes (c .before .before .before .before .before .before .before .before .before .before .before .before .before .before .before .before .before .before .before .before .args .docid) (take (c .before .before .before .before .before .before .before .before .before .before .before .before .before .before .before .before .loop .i + c .before .before .before .before .before .before .before .before .before .before .before .run .result - c .before .before .before .before .before .before .before .before .before .before .before .before .before .before .before .before .loop .i) (drop (c .before .before .before .before .before .before .before .before .before .before .before .before .before .before .before .before .loop .i) (c .before .before .before .before .before .before .before .before .before .before .before .before .before .before .before .before .before .before .before .before .args .rows .now))))),
       runs-next (c .before .before .before .before .before .before .before .before .before .before .before .before .before .before .before .before .before .before .before .before .args .folded .now) (c .before .before .before .before .before .before .before .before .before .before .before .before .before .before .before .before .before .before .before .before .args .rows .now) (c .before .before .before .before .before .before .before .before .before .before .before .before .before .before .before .before .before .before .before .before .pre .1) (c .before .before .before .before .before .before .before .before .before .before .before .before .before .before .before .before .loop .last) (c .before .before .before .before .before .before .before .before .before .before .before .before .before .before .before .before .loop .i) (c .before .before .before .before .before .before .before .before .before .before .before .before .before .before .before .before .loop .inv .0) (c .before .before .before .before .before .before .before .before .before .before .before .before .before .before .before .before .loop .inv .2) (c .before .before .before .before .before .before .before .before .before .before .before .before .before .before .before .loop-test .taken) (c .before .before .before .before .before .before .before .before .before .before .before .before .before .word-of .result .now) (c .before .before .before .before .before .before .before .before .before .before .before .run .result) (c .before .before .before .before .before .before .before .before .before .before .before .before .before .word-of .ensures) (c .before .before .before .before .before .before .before .before .before .before .before .run .ensures) (c .before .before .before .before .before .before .before .before .before .before .before .before .before .before .before .before .loop .i + c .before .before .before .before .before .before .before .before .before .before .before .run .result) refl,
       list (c .before .before .before),
       parts (c .before .before .before .before .before .before .before .before .before .before .before),

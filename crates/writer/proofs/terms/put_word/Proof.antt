@@ -1,7 +1,7 @@
--- `put_word` meets its contract: the prefix, and behind it the suffix.
+-- `put_word` meets its contract: the prefix, and after it the suffix.
 use Prim.Native.Nat.{_-_, _≤_}
 use native.Mathlib.Omega.{arith}
-use mathlib.Core.Path.{_≡_, sym, ap, subst, _∙_}
+use mathlib.Core.Path.{ap, _∙_}
 use lib.ListN.{length, take, drop}
 use Rattle.common.specs.Bytes.{over}
 use Rattle.varint.specs.Varint.{encode}

@@ -2,10 +2,10 @@
 use Prim.Native.Nat.{_-_}
 use native.Mathlib.Omega.{arith}
 use mathlib.Core.Path.{_≡_, sym, ap, _∙_}
-use lib.ListN.{length, getD}
+use lib.ListN.{length}
 use borrow.Author.Tests.{not-true, not-false}
 use Rattle.common.specs.Bytes.{span, same}
-use Rattle.tokenizer.proofs.General.{past, past-end, past-stop, past-more}
+use Rattle.common.proofs.Runs.{past, past-end, past-stop, past-more}
 use Rattle.writer.specs.Rows.{sameWord}
 use borrow.Author.Needs.{needs}
 use Rattle.writer.proofs.terms.run.Statement.{statement}

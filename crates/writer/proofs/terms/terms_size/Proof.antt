@@ -4,7 +4,7 @@ use Prim.Native.Nat.{ℕ, _+_, _-_, _≤_, _<_}
 use native.Mathlib.Omega.{arith}
 use mathlib.Core.Path.{_≡_, refl, ap, _∙_}
 use lib.ListN.{length, getD, take, drop, length-append}
-use Rattle.writer.specs.Rows.{wordOf}
+use Rattle.writer.specs.Rows.{rowWord}
 use Rattle.writer.specs.Stored.{termOf, termsFrom, termsOf}
 use Rattle.writer.proofs.TermLaws.{terms-most, AtRun, runs-start, runs-end, run-inside, run-within, run-rows, runs-next, runs-term}
 use borrow.Author.Needs.{needs}
@@ -24,7 +24,7 @@ within c =
     let l = c .before .before .before .before .before .loop in
     run-within (z .args .folded .now) (z .args .rows .now) (z .pre) (l .last) (l .i) (l .inv .0) (l .inv .1) (c .before .before .before .before .loop-test .taken) (c .before .before .word-of .result .now) (c .run .result) (c .before .before .word-of .ensures) (c .run .ensures)
 
--- the run's term, and the terms behind it
+-- the run's term, and the terms after it
 split : (c : tie.After-term-size Inv-loop μ-loop)
     → length (termsFrom (c .before .before .before .before .before .before .before .before .loop .inv .0) (c .before .before .before .before .before .before .before .before .before .before .before .args .folded .now) (c .before .before .before .before .before .before .before .before .before .before .before .args .docid) (c .before .before .before .before .before .before .before .before .loop .last) (drop (c .before .before .before .before .before .before .before .before .loop .i) (c .before .before .before .before .before .before .before .before .before .before .before .args .rows .now)))
     ≡ c .term-size .result + length (termsFrom (c .before .before .before .before .before .before .before .before .loop .inv .0 - 1) (c .before .before .before .before .before .before .before .before .before .before .before .args .folded .now) (c .before .before .before .before .before .before .before .before .before .before .before .args .docid) (getD (c .before .before .before .before .before .before .before .before .before .before .before .args .rows .now) (c .before .before .before .before .before .before .before .before .loop .i) 0) (drop (c .before .before .before .before .before .before .before .before .loop .i + c .before .before .before .run .result) (c .before .before .before .before .before .before .before .before .before .before .before .args .rows .now)))
@@ -38,7 +38,7 @@ split c =
     let rest = termsFrom (l .inv .0 - 1) (z .args .folded .now) (z .args .docid) (getD (z .args .rows .now) (l .i) 0) (drop next (z .args .rows .now)) in
     let t = runs-term (z .args .folded .now) (z .args .rows .now) (z .pre) (l .last) (l .i) (l .inv .0) (l .inv .1) (c .before .before .before .before .before .before .before .loop-test .taken) (w .result .now) (n .result) (w .ensures) (n .ensures) (z .args .docid) next refl in
     let s = c .term-size .ensures ∙ ap (λ x. length (termOf x (w .result .now) (z .args .docid) run)) (c .before .before .word-of2 .ensures) in
-    omega (arith, s, ap length t, length-append (termOf (wordOf (z .args .folded .now) (l .last)) (w .result .now) (z .args .docid) run) rest)
+    omega (arith, s, ap length t, length-append (termOf (rowWord (z .args .folded .now) (l .last)) (w .result .now) (z .args .docid) run) rest)
 
 loop-holds : tie.Need-loop-holds Inv-loop μ-loop
 loop-holds c =

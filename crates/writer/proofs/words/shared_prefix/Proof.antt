@@ -1,6 +1,6 @@
 -- `shared_prefix` meets its contract. The loop's invariant: the bytes passed are shared, and what is shared from there on
 -- makes up the rest. The measure is what is left of the first word.
-use Prim.Native.Nat.{_+_, _-_, _≤_}
+use Prim.Native.Nat.{_+_, _-_}
 use mathlib.Core.Path.{_≡_}
 use native.Mathlib.Omega.{arith}
 use lib.ListN.{length, drop}

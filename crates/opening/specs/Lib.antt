@@ -1,0 +1,4 @@
+-- The definitions of this crate, in the order in which they build on each other.
+pub mod Matching
+pub mod Opening
+pub mod Fronts
