@@ -11,12 +11,12 @@ use Rattle.common.proofs.Lists.{drop-inside, drop-outside, drop-next}
 use Rattle.common.proofs.Cases.{fails-exactly, passes-exactly, false-refutes}
 use Rattle.common.specs.Bits.{contains}
 use Rattle.lexer.specs.Token.{QueryWord, Phrase, Distance, begins, continues, nears, Node, phraseNodes, tieDistance}
-use Rattle.query.specs.Tree.{Link, Chain, linkNodes, chainNodes}
+use Rattle.query.specs.Tree.{Link, Chain, FilledLinks, linkNodes, chainNodes}
 use Rattle.meaning.specs.Satisfies.{Live, Standing, StandsAt, distanceOf, ChainHolds}
 use Rattle.row.specs.Row.{Hit}
 use Rattle.row.specs.Walk.{candidates, WholeRow}
 use Rattle.lexer.proofs.Nodes.{length-nodeMap, length-phraseNodes}
-use Rattle.chain.specs.Chains.{TiesAre, FilledLinks, BeginsChain, runEnd, chainEnd, RowFits, Agrees, ChainAt, MarkRoom, markWords, DecidesChain}
+use Rattle.chain.specs.Chains.{TiesAre, BeginsChain, runEnd, chainEnd, RowFits, Agrees, ChainAt, MarkRoom, markWords, DecidesChain}
 use Rattle.chain.specs.Reaching.{isMarked, distanceAt, Nth, SomeAllowed, sourceOf, Steps, windowOf, operandStart}
 use Rattle.chain.specs.Going.{GoesOn, InsideColumns, WordsAt, Continues}
 use Rattle.chain.specs.declared.Window.{Window}

@@ -9,9 +9,9 @@ use Rattle.common.specs.Bytes.{within, span}
 use Rattle.common.proofs.Lists.{head-same, drop-inside, drop-next}
 use Rattle.lexer.specs.Token.{QueryWord, Distance, bare, written, Tie, begins, continues, nears, Node, phraseNodes, nodeMap, tieNumber, tieDistance}
 use Rattle.lexer.proofs.Nodes.{length-nodeMap, drop-nodeMap, getD-nodeMap, length-phraseNodes}
-use Rattle.query.specs.Tree.{Link, Chain, linkNodes, chainNodes}
+use Rattle.query.specs.Tree.{Link, Chain, FilledLinks, FilledChain, linkNodes, chainNodes}
 use Rattle.meaning.specs.Satisfies.{distanceOf}
-use Rattle.chain.specs.Chains.{TiesAre, nodeWord, FilledLinks, FilledChain, BeginsChain, runEnd, chainEnd}
+use Rattle.chain.specs.Chains.{TiesAre, nodeWord, BeginsChain, runEnd, chainEnd}
 use Rattle.chain.specs.Reaching.{distanceAt}
 use Rattle.chain.proofs.Ends.{run-begins}
 

@@ -10,7 +10,7 @@ use lib.Dec.{ltb}
 use Rattle.common.specs.Pick.{pick}
 use Rattle.common.specs.Bytes.{within, span}
 use Rattle.lexer.specs.Token.{QueryWord, Node, nodeMap, tieNumber, tieDistance, begins}
-use Rattle.query.specs.Tree.{Link, Chain, chainNodes}
+use Rattle.query.specs.Tree.{Chain, FilledChain, chainNodes}
 use Rattle.meaning.specs.Satisfies.{Live, StandsAt, Standing, ChainHolds}
 use Rattle.row.specs.Row.{Hit, StandsIn, bodiesSize}
 use Rattle.row.specs.Walk.{WholeRow}
@@ -32,14 +32,6 @@ abbrev pub nodeWord : List Node → ℕ → QueryWord
 nodeWord [] i = noWord
 nodeWord (n ∷ nodes) zero = n .word
 nodeWord (n ∷ nodes) (suc i) = nodeWord nodes i
-
--- every phrase has a word
-abbrev pub FilledLinks : List Link → Type 0
-FilledLinks [] = Unit {0}
-FilledLinks (l ∷ ls) = (0 < length (l .phrase .words)) × FilledLinks ls
-
-abbrev pub FilledChain : Chain → Type 0
-FilledChain c = (0 < length (c .first .words)) × FilledLinks (c .links)
 
 -- no word, or one that begins an operand of AND, OR or NOT
 abbrev pub BeginsChain : List Node → Type 0

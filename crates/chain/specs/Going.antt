@@ -8,11 +8,11 @@ use mathlib.Core.List.{List, [], _++_}
 use lib.ListN.{length, getD, drop}
 use Rattle.common.specs.Bits.{contains}
 use Rattle.lexer.specs.Token.{QueryWord, Node, continues, phraseNodes}
-use Rattle.query.specs.Tree.{Link, linkNodes}
+use Rattle.query.specs.Tree.{Link, FilledLinks, linkNodes}
 use Rattle.meaning.specs.Satisfies.{Live, StandsAt, Standing, Consecutive, Chosen}
 use Rattle.row.specs.Row.{Hit}
 use Rattle.row.specs.Walk.{Spot, candidates}
-use Rattle.chain.specs.Chains.{TiesAre, FilledLinks, BeginsChain, RowFits, Agrees, MarkRoom}
+use Rattle.chain.specs.Chains.{TiesAre, BeginsChain, RowFits, Agrees, MarkRoom}
 use Rattle.chain.specs.Reaching.{Nth, sourceOf}
 
 -- after a position, with which `size` words of the operand are placed, its other words stand and the links can be chosen

@@ -15,9 +15,9 @@ use Rattle.varint.specs.Varint.{encode, encodeIn, maxVarint, readAt}
 use Rattle.varint.specs.declared.Varint.the-variants.{Value, Refused}
 use Rattle.varint.proofs.Laws.{encode-small, encode-big, refused-no-value, value-same, next-same}
 use Rattle.doclist.specs.Doclist.{Column, Entry, positionNumbers, announced, columnNumbers, encodeAll, entryBytes, encodeFrom}
-use Rattle.doclist.proofs.Numbers.{all-append}
 use Rattle.doclist.proofs.Entries.{entry-number, first-entry, entries-pos}
 use Rattle.row.specs.Row.{bodyBytes}
+use Rattle.row.proofs.Bodies.{openBytes, body-closes, body-length}
 use Rattle.cursors.specs.Arrays.{isOpen, finished, StandsOn, ListAt}
 
 -- ---- no byte 0
@@ -63,14 +63,6 @@ open-columns (c ∷ cs) =
     open-append (announced (c .column)) (positionNumbers 0 (c .positions) ++ columnNumbers cs) (open-announced (c .column))
     (open-append (positionNumbers 0 (c .positions)) (columnNumbers cs) (open-positions 0 (c .positions)) (open-columns cs))
 
--- the bytes of a body before the closing 0
-abbrev pub openBytes : List Column → List ℕ
-openBytes cs = encodeAll (columnNumbers cs)
-
-pub body-closes : (cs : List Column) → bodyBytes cs ≡ openBytes cs ++ (0 ∷ [])
-unfolding encodeIn
-body-closes cs = all-append (columnNumbers cs) (0 ∷ [])
-
 -- ---- the first byte 0
 
 -- among the first `k` bytes
@@ -91,8 +83,7 @@ module _ {leaves : List ℕ} {e : Entry} {rest : List Entry} {docid body last : 
 
   last-is : last ≡ body + length (openBytes (e .columns)) + length (encodeFrom (e .docid) rest)
   last-is =
-      let k : length (bodyBytes (e .columns)) ≡ length (openBytes (e .columns)) + 1 =
-      ap length (body-closes (e .columns)) ∙ length-append (openBytes (e .columns)) (0 ∷ []) in
+      let k = body-length (e .columns) in
       omega (arith, on .ends)
 
   -- the list's last byte is inside
@@ -108,9 +99,6 @@ module _ {leaves : List ℕ} {e : Entry} {rest : List Entry} {docid body last : 
       ap (λ (s : List ℕ). span isOpen (take (last - body) s)) open-here
       ∙ open-span (last - body) (openBytes (e .columns)) (encodeFrom (e .docid) rest ++ on .after) (open-numbers (columnNumbers (e .columns)) (open-columns (e .columns)))
       ∙ omega arith
-
-pub body-length : (cs : List Column) → length (bodyBytes cs) ≡ length (openBytes cs) + 1
-body-length cs = ap length (body-closes cs) ∙ length-append (openBytes cs) (0 ∷ [])
 
 -- where that is the list's last byte, no entry is left
 pub stands-last : {leaves : List ℕ} {e : Entry} {rest : List Entry} {docid body last : ℕ} (size : ℕ) → StandsOn leaves e rest docid body last

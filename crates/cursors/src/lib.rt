@@ -10,16 +10,16 @@ ghost use mathlib.Core.Logic.{_↔_};
 ghost use mathlib.Core.Bool.{true, false};
 ghost use mathlib.Core.List.{List};
 ghost use Prim.Native.Nat.{ℕ, _+_, _*_, _^_, _≤_, _<_, min};
-ghost use lib.ListN.{length, getD, take};
+ghost use lib.ListN.{length, take};
 ghost use lib.Dec.{ltb};
 ghost use Rattle.common.specs.Pick.{pick, both};
 ghost use Rattle.common.specs.Bytes.{part, span};
-ghost use Rattle.doclist.specs.Doclist.{Entry, docidLimit};
-ghost use Rattle.cursors.specs.Groups.{Group, withoutBefore, From, NextIs};
+ghost use Rattle.doclist.specs.Doclist.{Entry};
+ghost use Rattle.cursors.specs.Groups.{Group, withoutBefore, NextIs};
 ghost use Rattle.common.specs.Frame.{KeptFrom};
 ghost use Rattle.common.specs.Bounds.{maxIndexBytes};
-ghost use Rattle.cursors.specs.Arrays.{finished, isOpen, StandsOn, ListAt, CursorsAre, leastOf, nextOf, blockSize, blocksOf, MinimaAre, RowTaken, Passed};
-ghost use Rattle.cursors.specs.Frames.{TakeRoom, NotTaken, otherThan, RowNext, RowFrame, MoveRoom, NotPassed, among, nextFrom, PassFrame};
+ghost use Rattle.cursors.specs.Arrays.{finished, isOpen, StandsOn, ListAt, CursorsAre, leastOf, nextOf, blockSize, blocksOf, MinimaAre};
+ghost use Rattle.cursors.specs.Frames.{Advances, otherThan, RowFrame, among, nextFrom, Passes};
 ghost use Rattle.cursors.specs.Scanning.{begun, joined, overOther, overHit, takenOf, Fits, BlockTaken, Scanned};
 ghost use Rattle.cursors.specs.declared.Scan.{Scan};
 
@@ -402,10 +402,7 @@ pub fn advance(
     starts: &mut [u16],
     matched: &mut [u16],
 ) -> Taken
-    ensures row { λ r. ⌜ ((groups : List Group) → CursorsAre (now (leaves .entry)) (now (docids .entry)) (now (bodies .entry)) (now (lasts .entry)) (now (masks .entry)) (now (follows .entry)) n groups → MinimaAre (now (docids .entry)) n (now (mins .entry)) → docid < docidLimit → From docid groups → n ≤ length (now (starts .entry)) → n ≤ length (now (matched .entry)) → RowTaken (now (leaves .entry)) (now (docids .exit)) (now (bodies .exit)) (now (lasts .entry)) (now (masks .entry)) (now (follows .entry)) n (now (mins .exit)) (now (starts .exit)) (now (matched .exit)) docid groups r) ⌝ }
-    ensures next { λ r. ⌜ (TakeRoom n (now (docids .entry)) (now (bodies .entry)) (now (lasts .entry)) (now (masks .entry)) (now (follows .entry)) (now (mins .entry)) (now (starts .entry)) (now (matched .entry)) → MinimaAre (now (docids .entry)) n (now (mins .entry)) → RowNext docid n (now (docids .entry)) (now (docids .exit)) (now (mins .exit)) r) ⌝ }
-    ensures otherwise { λ r. ⌜ ((TakeRoom n (now (docids .entry)) (now (bodies .entry)) (now (lasts .entry)) (now (masks .entry)) (now (follows .entry)) (now (mins .entry)) (now (starts .entry)) (now (matched .entry)) → ⊥) → NotTaken (now (docids .entry)) (now (docids .exit)) (now (bodies .entry)) (now (bodies .exit)) (now (mins .entry)) (now (mins .exit)) (now (starts .entry)) (now (starts .exit)) (now (matched .entry)) (now (matched .exit)) r) ⌝ }
-    ensures frame { λ r. ⌜ RowFrame docid n (now (docids .entry)) (now (docids .exit)) (now (bodies .entry)) (now (bodies .exit)) (now (starts .entry)) (now (starts .exit)) (now (matched .entry)) (now (matched .exit)) (r .hits) (r .taken) (r .last) × KeptFrom (blocksOf n) (now (mins .entry)) (now (mins .exit)) ⌝ }
+    ensures { λ r. ⌜ Advances docid n (now (leaves .entry)) (now (lasts .entry)) (now (masks .entry)) (now (follows .entry)) (record { docids = now (docids .entry); bodies = now (bodies .entry); mins = now (mins .entry) }) (record { docids = now (docids .exit); bodies = now (bodies .exit); mins = now (mins .exit) }) (record { starts = now (starts .entry); matched = now (matched .entry) }) (record { starts = now (starts .exit); matched = now (matched .exit) }) r ⌝ }
 {
     let mut scan = Scan {
         hits: 0,
@@ -506,9 +503,7 @@ pub fn pass(
     n: usize,
     mins: &mut [u64],
 ) -> Next
-    ensures content { λ r. ⌜ ((masks follows : List ℕ) (groups : List Group) → CursorsAre (now (leaves .entry)) (now (docids .entry)) (now (bodies .entry)) (now (lasts .entry)) masks follows n groups → MinimaAre (now (docids .entry)) n (now (mins .entry)) → i < n → rest ≤ finished → ((k : ℕ) → k < n → (k ≡ i → ⊥) → rest ≤ getD (now (docids .entry)) k 0) → Passed (now (leaves .entry)) (now (docids .exit)) (now (bodies .exit)) (now (lasts .entry)) masks follows n (now (mins .exit)) i rest groups r) ⌝ }
-    ensures otherwise { λ r. ⌜ (((i < n) × MoveRoom n (now (docids .entry)) (now (bodies .entry)) (now (lasts .entry)) (now (mins .entry)) → ⊥) → NotPassed (now (docids .entry)) (now (docids .exit)) (now (bodies .entry)) (now (bodies .exit)) (now (mins .entry)) (now (mins .exit)) r) ⌝ }
-    ensures frame { λ r. ⌜ (i < n → MoveRoom n (now (docids .entry)) (now (bodies .entry)) (now (lasts .entry)) (now (mins .entry)) → PassFrame n i rest (now (docids .entry)) (now (docids .exit)) (now (bodies .entry)) (now (bodies .exit)) (now (mins .entry)) (now (mins .exit)) r) ⌝ }
+    ensures { λ r. ⌜ Passes i rest n (now (leaves .entry)) (now (lasts .entry)) (record { docids = now (docids .entry); bodies = now (bodies .entry); mins = now (mins .entry) }) (record { docids = now (docids .exit); bodies = now (bodies .exit); mins = now (mins .exit) }) r ⌝ }
 {
     let none = Next::End;
     if n <= i {

@@ -6,22 +6,12 @@ use mathlib.Core.List.{List}
 use lib.ListN.{getD}
 use lib.Bits.{bitAnd}
 use Rattle.cursors.specs.Groups.{Group, NextIs}
-use Rattle.cursors.specs.Arrays.{finished, CursorsAre, MinimaAre, Passed}
+use Rattle.cursors.specs.Arrays.{finished, CursorsAre, MinimaAre}
+use Rattle.cursors.specs.Frames.{Passes}
 use Rattle.cursors.specs.declared.Next.{Next}
 use Rattle.cursors.specs.declared.Taken.{Taken}
 use Rattle.engine.specs.Rows.{OneCursor, WentOn}
 use Rattle.engine.proofs.Reaching.{next-from}
-
--- what `cursors::pass` promises
-abbrev Passes : (i rest : ℕ) (leaves docids bodies lasts : List ℕ) (n : ℕ) (mins docids₁ bodies₁ mins₁ : List ℕ) → Next → Type 0
-Passes i rest leaves docids bodies lasts n mins docids₁ bodies₁ mins₁ r =
-    (masks follows : List ℕ) (groups : List Group)
-    → CursorsAre leaves docids bodies lasts masks follows n groups
-    → MinimaAre docids n mins
-    → i < n
-    → rest ≤ finished
-    → ((k : ℕ) → k < n → (k ≡ i → ⊥) → rest ≤ getD docids k 0)
-    → Passed leaves docids₁ bodies₁ lasts masks follows n mins₁ i rest groups r
 
 module _ {leaves docids bodies lasts masks : List ℕ} {n : ℕ} {mins : List ℕ} {needed : ℕ} where
   pub stays : (row : Taken) (follows : List ℕ) (groups : List Group) → CursorsAre leaves docids bodies lasts masks follows n groups → MinimaAre docids n mins → NextIs groups (row .next) → OneCursor docids n row
@@ -39,12 +29,12 @@ module _ {leaves docids bodies lasts masks : List ℕ} {n : ℕ} {mins : List �
       }
 
   pub passes : (row : Taken) {docids₁ bodies₁ mins₁ : List ℕ} {next : Next} → row .taken ≡ 1 → row .rest ≤ finished → (bitAnd (getD masks (row .last) 0) needed ≡ needed → ⊥)
-      → Passes (row .last) (row .rest) leaves docids bodies lasts n mins docids₁ bodies₁ mins₁ next
+      → Passes (row .last) (row .rest) n leaves lasts (record { docids = docids; bodies = bodies; mins = mins }) (record { docids = docids₁; bodies = bodies₁; mins = mins₁ }) next
       → (follows : List ℕ) (groups : List Group) → CursorsAre leaves docids bodies lasts masks follows n groups → MinimaAre docids n mins → NextIs groups (row .next) → OneCursor docids n row
       → WentOn leaves docids₁ bodies₁ lasts masks follows n mins₁ needed groups next
   passes row {next = next} one small lacks pass follows groups c m e lone =
       let l = lone one in
-      let p = pass masks follows groups c m (l .0) small (l .1) in
+      let p = pass .content masks follows groups c m (l .0) small (l .1) in
       record {
         left = p .left;
         cursors-are = p .cursors-are;

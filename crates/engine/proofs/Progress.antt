@@ -10,10 +10,10 @@ use lib.ListN.{length}
 use Rattle.common.proofs.Cases.{false-not-true}
 use Rattle.doclist.specs.Doclist.{Rising, docidLimit}
 use Rattle.lexer.specs.Token.{QueryWord, Tie, begins, continues, Node, phraseNodes}
-use Rattle.query.specs.Tree.{Tree, leaf, joined, linkNodes, treeNodes}
+use Rattle.query.specs.Tree.{Tree, leaf, joined, FilledTree, linkNodes, treeNodes}
 use Rattle.meaning.specs.Satisfies.{Live, StandsAt, Satisfies}
 use Rattle.meaning.specs.Listing.{Lists}
-use Rattle.meaning.proofs.Some.{WordedTree, firstPhrase, holds-some, first-worded}
+use Rattle.meaning.proofs.Some.{firstPhrase, holds-some}
 use Rattle.row.specs.Row.{bodiesSize}
 use Rattle.chain.specs.Chains.{nodeWord, Agrees, maxCandidates}
 use Rattle.cursors.specs.Groups.{Group, hitsAt, From, GroupsBegin, NextIs}
@@ -22,7 +22,6 @@ use Rattle.cursors.specs.declared.Next.{Next}
 use Rattle.cursors.specs.declared.Next.the-variants.{Docid, End}
 use Rattle.cursors.proofs.Each.{ordered}
 use Rattle.cursors.proofs.Moving.{hits-none, hits-end}
-use Rattle.evaluate.specs.Evaluate.{FilledTree}
 use Rattle.engine.specs.Rows.{RowAgrees, RowEvaluated}
 use Rattle.engine.specs.declared.Evaluated.{Evaluated}
 use Rattle.engine.proofs.Below.{ListsBelow, lists-none, lists-skip, lists-more, lists-all}
@@ -67,15 +66,11 @@ first-among w (joined o a b) m =
     (λ n. among-right w (treeNodes a) (treeNodes b) (first-among w b n))
     (List·Memᴰ·append-cases (firstPhrase a) m)
 
-tree-worded : (t : Tree) → FilledTree t → WordedTree t
-tree-worded (leaf c) h = first-worded (c .first .words) (h .0)
-tree-worded (joined o a b) h = (tree-worded a (h .0), tree-worded b (h .1))
-
 -- ---- a row without hits satisfies nothing
 
 pub no-row : (t : Tree) (live : Live) (groups : List Group) (d : ℕ) → FilledTree t → RowAgrees (treeNodes t) live groups d → hitsAt d groups ≡ [] → Satisfies live d t → ⊥
 no-row t live groups d w tells none h =
-    let s = holds-some (StandsAt live d) t (tree-worded t w) h in
+    let s = holds-some (StandsAt live d) t w h in
     let a = first-among (s .0) t (s .1) in
     let column = s .2 .0 in
     let position = s .2 .1 in

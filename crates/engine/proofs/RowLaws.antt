@@ -14,6 +14,7 @@ use Rattle.query.specs.Tree.{Tree}
 use Rattle.meaning.specs.Satisfies.{Live, Satisfies}
 use Rattle.cursors.specs.Groups.{Group, hitsAt, moved, From, NextIs}
 use Rattle.cursors.specs.Arrays.{CursorsAre, MinimaAre, RowTaken}
+use Rattle.cursors.specs.Frames.{Advances}
 use Rattle.cursors.specs.declared.Taken.{Taken}
 use Rattle.cursors.specs.declared.Next.{Next}
 use Rattle.cursors.specs.declared.Next.the-variants.{Docid}
@@ -23,20 +24,6 @@ use Rattle.evaluate.specs.Needs.{Needed}
 use Rattle.engine.specs.Rows.{Lacking, RowDecided, OneCursor, WentOn, Ready, RowEvaluated}
 use Rattle.engine.proofs.Lacking.{lacking-not}
 use Rattle.engine.proofs.Reaching.{begins-hits}
-
--- ---- what the calls promise
-
--- what `cursors::advance` promises
-abbrev pub Advances : (leaves docids bodies lasts masks follows : List ℕ) (n : ℕ) (mins starts matched : List ℕ) (docid : ℕ) (docids₁ bodies₁ mins₁ starts₁ matched₁ : List ℕ) → Taken → Type 0
-Advances leaves docids bodies lasts masks follows n mins starts matched docid docids₁ bodies₁ mins₁ starts₁ matched₁ r =
-    (groups : List Group)
-    → CursorsAre leaves docids bodies lasts masks follows n groups
-    → MinimaAre docids n mins
-    → docid < docidLimit
-    → From docid groups
-    → n ≤ length starts
-    → n ≤ length matched
-    → RowTaken leaves docids₁ bodies₁ lasts masks follows n mins₁ starts₁ matched₁ docid groups r
 
 -- what `go_on` promises
 abbrev pub CursorsGoOn : (leaves docids bodies lasts masks : List ℕ) (n : ℕ) (mins : List ℕ) (needed : ℕ) (docids₁ bodies₁ mins₁ : List ℕ) → Taken → Next → Type 0
@@ -53,12 +40,12 @@ CursorsGoOn leaves docids bodies lasts masks n mins needed docids₁ bodies₁ m
 module _ {query : Query} {leaves docids bodies lasts masks follows : List ℕ} {n : ℕ} {mins : List ℕ} {docid : ℕ} {starts matched marks spare docids₁ bodies₁ mins₁ starts₁ matched₁ docids₂ bodies₂ mins₂ : List ℕ} {needed : ℕ}
     (taken : Taken) (next : Next)
     (needs : Needed (query .ops .codes) (query .ops .len) (query .words .count) needed)
-    (advances : Advances leaves docids bodies lasts masks follows n mins starts matched docid docids₁ bodies₁ mins₁ starts₁ matched₁ taken)
+    (advances : Advances docid n leaves lasts masks follows (record { docids = docids; bodies = bodies; mins = mins }) (record { docids = docids₁; bodies = bodies₁; mins = mins₁ }) (record { starts = starts; matched = matched }) (record { starts = starts₁; matched = matched₁ }) taken)
     (goes-on : CursorsGoOn leaves docids₁ bodies₁ lasts masks n mins₁ needed docids₂ bodies₂ mins₂ taken next)
     (tree : Tree) (live : Live) (groups : List Group)
     (ready : Ready query leaves docids bodies lasts masks follows n mins docid starts matched marks spare tree live groups) where
   row : RowTaken leaves docids₁ bodies₁ lasts masks follows n mins₁ starts₁ matched₁ docid groups taken
-  row = advances groups (ready .cursors-are) (ready .minima) (ready .limit) (ready .from) (ready .starts-room) (ready .matched-room)
+  row = advances .row groups (ready .cursors-are) (ready .minima) (ready .limit) (ready .from) (ready .starts-room) (ready .matched-room)
 
   on : WentOn leaves docids₂ bodies₂ lasts masks follows n mins₂ needed (moved docid groups) next
   on = goes-on follows (moved docid groups) (row .cursors-are) (row .minima) (row .next-is) (row .lone)

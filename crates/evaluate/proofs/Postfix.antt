@@ -14,10 +14,10 @@ use Rattle.common.specs.Pick.{pick}
 use Rattle.common.proofs.Cases.{both-exactly, either-exactly, both-not-exactly}
 use Rattle.common.proofs.Bits.{quarter, under-pushed}
 use Rattle.lexer.specs.Token.{QueryWord, Node, phraseNodes, begins}
-use Rattle.query.specs.Tree.{Op, OR, AND, NOT, Chain, Tree, leaf, joined, linkNodes, chainNodes, treeNodes, opCode, postfix}
+use Rattle.query.specs.Tree.{Op, OR, AND, NOT, Chain, Tree, leaf, joined, FilledChain, FilledTree, linkNodes, chainNodes, treeNodes, opCode, postfix}
 use Rattle.meaning.specs.Satisfies.{Standing, Holds}
-use Rattle.chain.specs.Chains.{FilledChain, BeginsChain}
-use Rattle.evaluate.specs.Evaluate.{FilledTree, pushBit, topOf, combined, applied}
+use Rattle.chain.specs.Chains.{BeginsChain}
+use Rattle.evaluate.specs.Evaluate.{pushBit, topOf, combined, applied}
 
 -- ---- symbols: what the codes stand for
 

@@ -9,10 +9,10 @@ use mathlib.Core.List.{List, [], _∷_, append-nil}
 use lib.ListN.{length, getD, drop, drop-of-length-le, length-drop, length-append}
 use Rattle.common.proofs.Lists.{drop-head, drop-outside, drop-past}
 use Rattle.lexer.specs.Token.{phraseNodes, begins}
-use Rattle.query.specs.Tree.{Op, OR, AND, NOT, Chain, Tree, leaf, joined, linkNodes, chainNodes, treeNodes, opCode, postfix}
+use Rattle.query.specs.Tree.{Op, OR, AND, NOT, Chain, Tree, leaf, joined, FilledChain, linkNodes, chainNodes, treeNodes, opCode, postfix}
 use Rattle.meaning.specs.Satisfies.{Live, StandsAt, Satisfies}
 use Rattle.row.specs.Row.{Hit}
-use Rattle.chain.specs.Chains.{TiesAre, FilledChain, chainEnd, RowFits, Agrees, ChainAt, MarkRoom}
+use Rattle.chain.specs.Chains.{TiesAre, chainEnd, RowFits, Agrees, ChainAt, MarkRoom}
 use Rattle.chain.specs.Chains as chains
 use Rattle.lexer.proofs.Nodes.{length-phraseNodes}
 use Rattle.chain.proofs.Chaining.{end-is}

@@ -10,17 +10,12 @@ use lib.ListN.{length}
 use lib.Dec.{eqb}
 use Rattle.common.specs.Pick.{pick, both, either}
 use Rattle.lexer.specs.Token.{maxWords}
-use Rattle.query.specs.Tree.{Tree, leaf, joined, treeNodes, postfix, compile}
+use Rattle.query.specs.Tree.{Tree, FilledTree, treeNodes, postfix, compile}
 use Rattle.meaning.specs.Satisfies.{Live, StandsAt, Satisfies}
 use Rattle.row.specs.Row.{Hit, RowIs, bodiesSize}
-use Rattle.chain.specs.Chains.{TiesAre, FilledChain, maxCandidates, RowFits, Agrees, MarkRoom}
+use Rattle.chain.specs.Chains.{TiesAre, maxCandidates, RowFits, Agrees, MarkRoom}
 
 -- ---- what is given
-
--- every phrase has a word
-abbrev pub FilledTree : Tree → Type 0
-FilledTree (leaf c) = FilledChain c
-FilledTree (joined o a b) = FilledTree a × FilledTree b
 
 -- a tree that a query of at most 16 words is read as
 pub record Fit (tree : Tree) : Type 0 where

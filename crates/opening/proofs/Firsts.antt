@@ -11,7 +11,7 @@ use Rattle.doclist.specs.Doclist.{Column, Entry, Columns, Entries, WellFormed, 
 use Rattle.doclist.proofs.Entries.{entry-number, first-entry}
 use Rattle.row.specs.Row.{bodyBytes}
 use Rattle.cursors.specs.Arrays.{ListAt}
-use Rattle.cursors.proofs.Bodies.{body-length}
+use Rattle.row.proofs.Bodies.{body-length}
 use Rattle.opening.specs.Fronts.{FrontHas}
 
 -- ---- a table with fewer columns

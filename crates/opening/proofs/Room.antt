@@ -14,7 +14,7 @@ use Rattle.doclist.specs.Doclist as doclist
 use Rattle.row.specs.Row.{bodyBytes}
 use Rattle.leaf.specs.Leaf.{Term, Terms, WellFormed, shared, sized, termBytes, encodeTerms, encodeLeaf, AreLeaves}
 use Rattle.leaf.proofs.Words.{parted}
-use Rattle.cursors.proofs.Bodies.{body-length}
+use Rattle.row.proofs.Bodies.{body-length}
 use Rattle.opening.specs.Opening.{LeavesAre, wordSize}
 use Rattle.opening.proofs.Words.{termsTotal, leavesTotal}
 

@@ -1,6 +1,6 @@
 -- What a search starts from: the posting lists of every index word that some word of the query matches. An index word's
 -- group has its lists in all leaves that have the word, newest leaf first.
-use Prim.Native.Nat.{ℕ, _+_, _≤_, _<_}
+use Prim.Native.Nat.{ℕ, _+_, _*_, _≤_, _<_}
 use mathlib.Core.Path.{_≡_}
 use mathlib.Core.List.{List, [], _∷_, _++_, map, List·Memᴰ}
 use lib.ListN.{length, getD}
@@ -14,7 +14,7 @@ use Rattle.common.specs.Frame.{KeptFrom}
 use Rattle.common.specs.Bounds.{maxIndexBytes, maxLeaves}
 use Rattle.cursors.specs.Groups.{Group}
 use Rattle.cursors.specs.Arrays.{CursorsAre}
-use Rattle.opening.specs.Matching.{maskOf}
+use Rattle.opening.specs.Matching.{maskOf, TextIs}
 
 -- ---- the leaves
 
@@ -114,3 +114,16 @@ pub record OpenFrame (bytes : List ℕ) (before after : Arrays) (n : ℕ) : Type
   pub masks-kept : KeptFrom n (before .masks) (after .masks)
   pub follows-kept : KeptFrom n (before .follows) (after .follows)
   pub each : (k : ℕ) → k < n → CursorFits bytes after k
+
+-- ---- both: what opening the lists of a query's words answers and leaves
+
+pub record Opens (text stops marks : List ℕ) (count : ℕ) (bytes ends : List ℕ) (before after : Arrays) (n : ℕ) : Type 0 where
+  -- where the words are those of a query, the bytes are leaves, and there is a place for every word that they can have
+  pub content : (nodes : List Node) (columns : ℕ) (leaves : List (List Term))
+      → TextIs text stops marks count nodes
+      → LeavesAre columns bytes ends leaves
+      → length bytes < wordSize * (length (before .docids) + 1)
+      → AsLong before
+      → Opened nodes leaves bytes (after .docids) (after .bodies) (after .lasts) (after .masks) (after .follows) n
+  pub otherwise : (Openable bytes ends before → ⊥) → NotOpened before after n
+  pub frame : OpenFrame bytes before after n

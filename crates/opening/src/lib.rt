@@ -20,7 +20,7 @@ ghost use Rattle.lexer.specs.Token.{Node};
 ghost use Rattle.cursors.specs.Arrays.{Cursor};
 ghost use Rattle.opening.specs.Matching.{beginsWith, matchesOf, maskOf, NodeAt, TextIs};
 ghost use Rattle.opening.specs.Fronts.{frontWord, skipTo, FrontHas, FrontIs, isEarlier, hasWord, frontAt, Placed, LeastIs, headLists, FrontsAre, Able, HasPlace, withCursor, HoldAll, WordTaken, allSkipped};
-ghost use Rattle.opening.specs.Opening.{LeavesAre, Arrays, arrays, AsLong, wordSize, Opened, Openable, NotOpened, OpenFrame};
+ghost use Rattle.opening.specs.Opening.{Arrays, arrays, OpenFrame, Opens};
 
 // The mark of a word with no `*`.
 const PLAIN: u8 = 0;
@@ -429,9 +429,7 @@ pub fn open(
     masks: &mut [u16],
     follows: &mut [u8],
 ) -> usize
-    ensures content { λ n. ⌜ ((nodes : List Node) (columns : ℕ) (terms : List (List Term)) → TextIs (now (text .entry)) (now (stops .entry)) (now (marks .entry)) count nodes → LeavesAre columns (now (leaves .entry)) (now (ends .entry)) terms → length (now (leaves .entry)) < wordSize * (length (now (docids .entry)) + 1) → AsLong (arrays (now (docids .entry)) (now (bodies .entry)) (now (lasts .entry)) (now (masks .entry)) (now (follows .entry))) → Opened nodes terms (now (leaves .entry)) (now (docids .exit)) (now (bodies .exit)) (now (lasts .exit)) (now (masks .exit)) (now (follows .exit)) n) ⌝ }
-    ensures otherwise { λ n. ⌜ (let before = arrays (now (docids .entry)) (now (bodies .entry)) (now (lasts .entry)) (now (masks .entry)) (now (follows .entry)) in (Openable (now (leaves .entry)) (now (ends .entry)) before → ⊥) → NotOpened before (arrays (now (docids .exit)) (now (bodies .exit)) (now (lasts .exit)) (now (masks .exit)) (now (follows .exit))) n) ⌝ }
-    ensures frame { λ n. ⌜ OpenFrame (now (leaves .entry)) (arrays (now (docids .entry)) (now (bodies .entry)) (now (lasts .entry)) (now (masks .entry)) (now (follows .entry))) (arrays (now (docids .exit)) (now (bodies .exit)) (now (lasts .exit)) (now (masks .exit)) (now (follows .exit))) n ⌝ }
+    ensures { λ n. ⌜ Opens (now (text .entry)) (now (stops .entry)) (now (marks .entry)) count (now (leaves .entry)) (now (ends .entry)) (arrays (now (docids .entry)) (now (bodies .entry)) (now (lasts .entry)) (now (masks .entry)) (now (follows .entry))) (arrays (now (docids .exit)) (now (bodies .exit)) (now (lasts .exit)) (now (masks .exit)) (now (follows .exit))) n ⌝ }
 {
     if !is_able(
         leaves,

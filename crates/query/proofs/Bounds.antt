@@ -8,7 +8,7 @@ use Rattle.lexer.specs.Token as token
 use Rattle.lexer.specs.Tokens.{RunToken, and-run, or-run, not-run, near-run, written-run, word-run, column-run, Tokens, end, space, open-paren, close-paren, quote, run}
 use Rattle.lexer.specs.Lexing.{QueryTokens}
 use Rattle.lexer.proofs.Nodes.{length-nodeMap}
-use Rattle.query.specs.Tree.{Link, Tree, leaf, joined, treeNodes, postfix, maxCodes}
+use Rattle.query.specs.Tree.{Link, Tree, FilledLinks, FilledTree, treeNodes, postfix, maxCodes}
 use Rattle.query.specs.Grammar.{Level, Derives, linkTokens, chain, parens, single, or, and, beside, not, Reads}
 use Rattle.query.proofs.Nodes.{Worded, worded-left, worded-right, tree-nodes, codes-fit}
 
@@ -55,26 +55,18 @@ query-codes q i = codes-fit i (tokens-worded (q .reads)) (query-words q i)
 
 -- ---- no phrase is empty
 
-abbrev pub LinksWorded : List Link → Type 0
-LinksWorded [] = Unit {0}
-LinksWorded (l ∷ ls) = (1 ≤ length (l .phrase .words)) × LinksWorded ls
+links-filled : (ls : List Link) → Worded (linkTokens ls) → FilledLinks ls
+links-filled [] h = tt
+links-filled (l ∷ ls) h = (omega (arith, h .0), links-filled ls (h .1))
 
-abbrev pub TreeWorded : Tree → Type 0
-TreeWorded (leaf c) = (1 ≤ length (c .first .words)) × LinksWorded (c .links)
-TreeWorded (joined o a b) = TreeWorded a × TreeWorded b
-
-links-worded : (ls : List Link) → Worded (linkTokens ls) → LinksWorded ls
-links-worded [] h = tt
-links-worded (l ∷ ls) h = (h .0, links-worded ls (h .1))
-
-tree-worded : {d : ℕ} {k : Level} {ts : List Token} {t : Tree} → Derives d k ts t → Worded ts → TreeWorded t
-tree-worded (chain c) h = (h .0, links-worded (c .links) (h .1))
-tree-worded (parens {ts = ts} i) h = tree-worded i (worded-left ts (rparen ∷ []) h)
-tree-worded (single i) h = tree-worded i h
-tree-worded (or {l = l} {r = r} i j) h = (tree-worded i (worded-left l (token.OR ∷ r) h), tree-worded j (worded-right l (token.OR ∷ r) h))
-tree-worded (and {l = l} {r = r} i j) h = (tree-worded i (worded-left l (token.AND ∷ r) h), tree-worded j (worded-right l (token.AND ∷ r) h))
-tree-worded (beside {l = l} {r = r} i j) h = (tree-worded i (worded-left l r h), tree-worded j (worded-right l r h))
-tree-worded (not {l = l} {r = r} i j) h = (tree-worded i (worded-left l (token.NOT ∷ r) h), tree-worded j (worded-right l (token.NOT ∷ r) h))
+tree-filled : {d : ℕ} {k : Level} {ts : List Token} {t : Tree} → Derives d k ts t → Worded ts → FilledTree t
+tree-filled (chain c) h = (omega (arith, h .0), links-filled (c .links) (h .1))
+tree-filled (parens {ts = ts} i) h = tree-filled i (worded-left ts (rparen ∷ []) h)
+tree-filled (single i) h = tree-filled i h
+tree-filled (or {l = l} {r = r} i j) h = (tree-filled i (worded-left l (token.OR ∷ r) h), tree-filled j (worded-right l (token.OR ∷ r) h))
+tree-filled (and {l = l} {r = r} i j) h = (tree-filled i (worded-left l (token.AND ∷ r) h), tree-filled j (worded-right l (token.AND ∷ r) h))
+tree-filled (beside {l = l} {r = r} i j) h = (tree-filled i (worded-left l r h), tree-filled j (worded-right l r h))
+tree-filled (not {l = l} {r = r} i j) h = (tree-filled i (worded-left l (token.NOT ∷ r) h), tree-filled j (worded-right l (token.NOT ∷ r) h))
 
 -- ---- of bytes that are a query
 
@@ -85,5 +77,5 @@ module _ {names : List (List ℕ)} {s : List ℕ} {t : Tree} (r : Reads names s 
   pub reads-codes : length (postfix t) ≤ maxCodes
   reads-codes = query-codes (r .split) (r .derived)
 
-  pub reads-worded : TreeWorded t
-  reads-worded = tree-worded (r .derived) (tokens-worded (r .split .reads))
+  pub reads-filled : FilledTree t
+  reads-filled = tree-filled (r .derived) (tokens-worded (r .split .reads))

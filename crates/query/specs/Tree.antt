@@ -1,7 +1,7 @@
 -- A query as a tree: NEAR chains of words and phrases, joined by AND, OR and NOT (document 01, "The query language").
 -- `compile` gives the same tree in the flat arrays that the search works on: the words in order, each with how it is
 -- tied to the one before, and the operators in postfix order. Both follow from the tree alone.
-use Prim.Native.Nat.{ℕ}
+use Prim.Native.Nat.{ℕ, _<_}
 use mathlib.Core.List.{List, [], _∷_, _++_}
 use lib.ListN.{length}
 use Rattle.lexer.specs.Token.{Phrase, Distance, begins, nears, Node, phraseNodes, packed, padded}
@@ -28,6 +28,19 @@ pub record Chain : Type 0 where
 pub data Tree : Type 0 where
   leaf : Chain → Tree
   joined : Op → Tree → Tree → Tree
+
+-- ---- every phrase has a word
+
+abbrev pub FilledLinks : List Link → Type 0
+FilledLinks [] = Unit {0}
+FilledLinks (l ∷ ls) = (0 < length (l .phrase .words)) × FilledLinks ls
+
+abbrev pub FilledChain : Chain → Type 0
+FilledChain c = (0 < length (c .first .words)) × FilledLinks (c .links)
+
+abbrev pub FilledTree : Tree → Type 0
+FilledTree (leaf c) = FilledChain c
+FilledTree (joined o a b) = FilledTree a × FilledTree b
 
 -- ---- the words in order
 

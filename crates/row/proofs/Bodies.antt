@@ -1,18 +1,31 @@
--- The positions of a body are read one after the other, exactly (`stepped`).
+-- What a body is made of: its numbers before the closing 0. Its positions are read one after the other, exactly (`stepped`).
 use Prim.Native.Nat.{ℕ, zero, suc, _+_, _-_, _≤_, _<_}
 use native.Mathlib.Omega.{arith}
 use mathlib.Core.Path.{_≡_, refl, sym, ap, _∙_, subst}
 use mathlib.Core.List.{List, [], _∷_, _++_, append-assoc}
-use lib.ListN.{length, drop}
+use lib.ListN.{length, drop, length-append}
 use borrow.Author.Tests.{lt-ltb, le-ltb, ne-eqb}
-use Rattle.varint.specs.Varint.{encode, readAt}
+use Rattle.varint.specs.Varint.{encode, encodeIn, readAt}
 use Rattle.varint.specs.declared.Varint.the-variants.{Value}
 use Rattle.doclist.specs.Doclist.{Column, positionLimit, Rising, NotEmpty, Columns, positionNumbers, announced, columnNumbers, encodeAll}
-use Rattle.doclist.proofs.Numbers.{next-number}
+use Rattle.doclist.proofs.Numbers.{all-append, next-number}
 use Rattle.row.specs.Row.{bodyBytes, BodyAt}
 use Rattle.row.specs.Walk.{Spot, columnSpots, spots, positionStep, stepOf, Ahead}
 use Rattle.row.specs.declared.Step.{Step}
 use Rattle.row.specs.declared.Step.the-variants.{At, Done}
+
+-- ---- the closing 0
+
+-- the bytes of a body before it
+abbrev pub openBytes : List Column → List ℕ
+openBytes cs = encodeAll (columnNumbers cs)
+
+pub body-closes : (cs : List Column) → bodyBytes cs ≡ openBytes cs ++ (0 ∷ [])
+unfolding encodeIn
+body-closes cs = all-append (columnNumbers cs) (0 ∷ [])
+
+pub body-length : (cs : List Column) → length (bodyBytes cs) ≡ length (openBytes cs) + 1
+body-length cs = ap length (body-closes cs) ∙ length-append (openBytes cs) (0 ∷ [])
 
 -- ---- a step
 

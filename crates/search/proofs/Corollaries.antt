@@ -18,13 +18,13 @@ use Rattle.doclist.specs.Doclist.{Rising, docidLimit}
 use Rattle.doclist.proofs.Content.{rising-low}
 use Rattle.leaf.specs.Leaf.{Term, IsLeaf, NoLeaf, AreLeaves}
 use Rattle.leaf.specs.Answers.{leafRefusals}
-use Rattle.query.specs.Tree.{Tree, NOT, leaf, joined}
+use Rattle.query.specs.Tree.{Tree, NOT, joined, FilledTree}
 use Rattle.query.proofs.Bounds as bounds
 use Rattle.meaning.specs.Satisfies.{Satisfies, StandsAt}
 use Rattle.meaning.specs.Index.{live}
 use Rattle.meaning.specs.Listing.{Answers, signedDocid, roomWith, zeros}
 use Rattle.meaning.proofs.Lists.{lists-unique}
-use Rattle.meaning.proofs.Some.{WordedTree, holds-some, first-worded}
+use Rattle.meaning.proofs.Some.{holds-some}
 use Rattle.search.specs.Search.{numbersOf, Input, columnCount, leafBytes, ShapeRight, IsQuery, Searchable, refusals, roomFor, Searched}
 use Rattle.search.specs.Checking.{SoundLeaves}
 use Rattle.search.specs.declared.Answer.{Answer}
@@ -95,12 +95,8 @@ shown-member d ds = (
 
 -- ---- an index without leaves
 
-tree-worded : (t : Tree) → bounds.TreeWorded t → WordedTree t
-tree-worded (leaf c) h = first-worded (c .first .words) (h .0)
-tree-worded (joined o a b) h = (tree-worded a (h .0), tree-worded b (h .1))
-
 -- nothing stands in it, and so no docid satisfies a query
-none-satisfies : (t : Tree) (d : ℕ) → WordedTree t → Satisfies (live []) d t → ⊥
+none-satisfies : (t : Tree) (d : ℕ) → FilledTree t → Satisfies (live []) d t → ⊥
 none-satisfies t d w h = List·Memᴰ·not-nil (holds-some (StandsAt (live []) d) t w h .2 .2 .2)
 
 -- ---- two answers
@@ -209,7 +205,7 @@ module _ (x : Input) (n : ℕ) (r : Answer) (room : List ℤ) (s : Searched x n 
       let e : s .docids ≡ [] =
       no-member (s .docids) (λ d m.
       let k = rising-low 0 docidLimit (s .docids) d (list .rising) m in
-      none-satisfies tree d (tree-worded tree (bounds.reads-worded query)) (list .exact d (k .1) .0 m)) in
+      none-satisfies tree d (bounds.reads-filled query) (list .exact d (k .1) .0 m)) in
       let c = count-is-length tree [] shape query l (subst (λ ds. length ds ≤ n) (sym e) (omega arith)) in
       let k : n - 0 ≡ n = omega arith in
       (e, c .0 ∙ ap (λ ds. answer.Found (length ds)) e, c .1 ∙ ap (roomWith n) e ∙ ap zeros k)

@@ -13,14 +13,11 @@ use Rattle.common.proofs.Cases.{false-not-true}
 use Rattle.offsets.proofs.Cuts.{length-cut}
 use Rattle.leaf.specs.Leaf.{Term, AreLeaves}
 use Rattle.leaf.specs.Answers.{leafRefusals}
-use Rattle.query.specs.Tree.{Link, Tree, leaf, joined}
+use Rattle.query.specs.Tree.{Tree}
 use Rattle.query.specs.declared.Reading.{Reading}
 use Rattle.query.specs.Reading.{Compiles}
-use Rattle.query.proofs.Bounds.{reads-words, reads-worded}
-use Rattle.query.proofs.Bounds as bounds
+use Rattle.query.proofs.Bounds.{reads-words, reads-filled}
 use Rattle.meaning.specs.Listing.{Answers, zeros}
-use Rattle.chain.specs.Chains.{FilledLinks}
-use Rattle.evaluate.specs.Evaluate.{FilledTree}
 use Rattle.engine.specs.Run.{Ran}
 use Rattle.engine.proofs.Rooms.{fitted-all, length-fitted}
 use Rattle.search.specs.Search.{numbersOf, Input, columnNames, columnCount, leafBytes, ShapeRight, IsQuery, refusals, roomFor, Searched}
@@ -28,15 +25,6 @@ use Rattle.search.specs.Checking.{SoundLeaves}
 use Rattle.search.specs.declared.Answer.{Answer}
 use Rattle.search.specs.declared.Answer.the-variants as answer
 use Rattle.search.proofs.Order.{leaf-at, none-broken, first-broken}
-
--- every phrase of a query has a word
-links-filled : (ls : List Link) → bounds.LinksWorded ls → FilledLinks ls
-links-filled [] h = tt
-links-filled (l ∷ ls) h = (omega (arith, h .0), links-filled ls (h .1))
-
-tree-filled : (t : Tree) → bounds.TreeWorded t → FilledTree t
-tree-filled (leaf c) h = (omega (arith, h .0), links-filled (c .links) (h .1))
-tree-filled (joined o a b) h = (tree-filled a (h .0), tree-filled b (h .1))
 
 -- the room was cleared for the answer `a`
 abbrev pub RefusedWith : ℕ → Answer → Answer → List ℤ → Type 0
@@ -97,7 +85,7 @@ module _ (x : Input) (n : ℕ) (r : Answer) (room : List ℤ) (good : Bool) (tes
         every : (tree : Tree) (index : List (List Term)) → ShapeRight x → IsQuery x tree → AreLeaves (columnCount x) (leafBytes x) index → Answers index tree (run .docids)
         every tree index s q l =
             run .listed (length (x .name-ends)) tree index
-            (record { fit = record { filled = tree-filled tree (reads-worded q); few = reads-words q }; same = ap (λ (m : Reading). m .query) (compiles .content tree q) })
+            (record { fit = record { filled = reads-filled q; few = reads-words q }; same = ap (λ (m : Reading). m .query) (compiles .content tree q) })
             (record { cuts = s .leaf-cuts; few = s .few-leaves; small = s .few-bytes; are = l })
 
         behind-leaves : FirstDue (roomRefusal n (length (run .docids)) ∷ []) (numbers 0 (length (run .docids))) (numbersOf r)

@@ -55,20 +55,18 @@ can-move-requires c κs = search needs
 returns : tie.Need-returns Inv-loop μ-loop
 returns c =
     let a = c .before .before .before .before .before .before .before .before .before .before .before .before .args in
-    let no = not-true _ (c .if1 .taken) in (
-      λ gs are minima limit from hs hm. let h = are .hold .room in absurd (false-not-true {X = ⊥} (sym no ∙ c .before .can-move .ensures .1 (h .docid-room, h .body-room, h .last-room, minima .room))),
-      (
-        λ h m. let r = h .cursor-room in absurd (false-not-true {X = ⊥} (sym no ∙ c .before .can-move .ensures .1 (r .docid-room, r .body-room, r .last-room, h .min-room))),
-        (
-          λ o. record { answer = c .before .before .end-scan .ensures; docids-same = refl; bodies-same = refl; mins-same = refl; starts-same = refl; matched-same = refl },
-          (
-            subst (λ (t : Taken). RowFrame (a .docid) (a .n) (a .docids .now) (a .docids .now) (a .bodies .now) (a .bodies .now) (a .starts .now) (a .starts .now) (a .matched .now) (a .matched .now) (t .hits) (t .taken) (t .last)) (sym (c .before .before .end-scan .ensures))
-                (frame-none (a .docid) (a .n) (a .docids .now) (a .bodies .now) (a .starts .now) (a .matched .now)),
-            kept-all _ _,
-          ),
-        ),
-      ),
-    )
+    let no = not-true _ (c .if1 .taken) in
+    record {
+      row =
+          λ gs are minima limit from hs hm. let h = are .hold .room in absurd (false-not-true {X = ⊥} (sym no ∙ c .before .can-move .ensures .1 (h .docid-room, h .body-room, h .last-room, minima .room)));
+      next =
+          λ h m. let r = h .cursor-room in absurd (false-not-true {X = ⊥} (sym no ∙ c .before .can-move .ensures .1 (r .docid-room, r .body-room, r .last-room, h .min-room)));
+      otherwise = λ o. record { answer = c .before .before .end-scan .ensures; cursors-same = refl; hits-same = refl };
+      frame =
+          subst (λ (t : Taken). RowFrame (a .docid) (a .n) (a .docids .now) (a .docids .now) (a .bodies .now) (a .bodies .now) (a .starts .now) (a .starts .now) (a .matched .now) (a .matched .now) (t .hits) (t .taken) (t .last)) (sym (c .before .before .end-scan .ensures))
+          (frame-none (a .docid) (a .n) (a .docids .now) (a .bodies .now) (a .starts .now) (a .matched .now));
+      minima-kept = kept-all _ _;
+    }
 
 has-room-requires : tie.Need-has-room-requires Inv-loop μ-loop
 has-room-requires c κs = search needs
@@ -76,20 +74,18 @@ has-room-requires c κs = search needs
 returns-2 : tie.Need-returns-2 Inv-loop μ-loop
 returns-2 c =
     let a = c .before .before .before .before .before .before .before .before .before .before .before .before .before .before .args in
-    let no = not-true _ (c .if2 .taken) in (
-      λ gs are minima limit from hs hm. let h = are .hold .room in absurd (false-not-true {X = ⊥} (sym no ∙ c .before .has-room .ensures .1 (h .mask-room, h .follow-room, hs, hm))),
-      (
-        λ h m. let r = h .cursor-room in absurd (false-not-true {X = ⊥} (sym no ∙ c .before .has-room .ensures .1 (r .mask-room, r .follow-room, h .start-room, h .matched-room))),
-        (
-          λ o. record { answer = c .before .before .before .before .end-scan .ensures; docids-same = refl; bodies-same = refl; mins-same = refl; starts-same = refl; matched-same = refl },
-          (
-            subst (λ (t : Taken). RowFrame (a .docid) (a .n) (a .docids .now) (a .docids .now) (a .bodies .now) (a .bodies .now) (a .starts .now) (a .starts .now) (a .matched .now) (a .matched .now) (t .hits) (t .taken) (t .last)) (sym (c .before .before .before .before .end-scan .ensures))
-                (frame-none (a .docid) (a .n) (a .docids .now) (a .bodies .now) (a .starts .now) (a .matched .now)),
-            kept-all _ _,
-          ),
-        ),
-      ),
-    )
+    let no = not-true _ (c .if2 .taken) in
+    record {
+      row =
+          λ gs are minima limit from hs hm. let h = are .hold .room in absurd (false-not-true {X = ⊥} (sym no ∙ c .before .has-room .ensures .1 (h .mask-room, h .follow-room, hs, hm)));
+      next =
+          λ h m. let r = h .cursor-room in absurd (false-not-true {X = ⊥} (sym no ∙ c .before .has-room .ensures .1 (r .mask-room, r .follow-room, h .start-room, h .matched-room)));
+      otherwise = λ o. record { answer = c .before .before .before .before .end-scan .ensures; cursors-same = refl; hits-same = refl };
+      frame =
+          subst (λ (t : Taken). RowFrame (a .docid) (a .n) (a .docids .now) (a .docids .now) (a .bodies .now) (a .bodies .now) (a .starts .now) (a .starts .now) (a .matched .now) (a .matched .now) (t .hits) (t .taken) (t .last)) (sym (c .before .before .before .before .end-scan .ensures))
+          (frame-none (a .docid) (a .n) (a .docids .now) (a .bodies .now) (a .starts .now) (a .matched .now));
+      minima-kept = kept-all _ _;
+    }
 
 loop-holds : tie.Need-loop-holds Inv-loop μ-loop
 loop-holds c =
@@ -316,33 +312,32 @@ returns-3 c =
     let f = l .inv .0 in
     let q : l .from ≡ a .n = omega (arith, f .block, c .before .before .before .loop-test .left) in
     let next : MinimaAre (a .docids .now) (a .n) (a .mins .now) → c .before .next-of .result ≡ nextOf (leastOf (take (a .n) (l .docids))) =
-    λ m. c .before .next-of .ensures ∙ ap nextOf (c .before .before .lesser2 .ensures ∙ l .inv .10 m .1 ∙ ap (λ (k : ℕ). leastOf (take k (l .docids))) q) in (
-      λ gs are minima limit from hs hm.
+    λ m. c .before .next-of .ensures ∙ ap nextOf (c .before .before .lesser2 .ensures ∙ l .inv .10 m .1 ∙ ap (λ (k : ℕ). leastOf (take k (l .docids))) q) in
+    record {
+      row =
+          λ gs are minima limit from hs hm.
           let r : ScanReady (a .leaves .now) (a .docids .now) (a .bodies .now) (a .lasts .now) (a .masks .now) (a .follows .now) (a .n) (a .mins .now) (a .starts .now) (a .matched .now) (a .docid) gs =
           record { cursors-are = are; minima = minima; limit = limit; from = from; start-room = hs; matched-room = hm } in
           subst (RowTaken (a .leaves .now) (l .docids) (l .bodies) (a .lasts .now) (a .masks .now) (a .follows .now) (a .n) (l .mins) (l .starts) (l .matched) (a .docid) gs) (sym (c .end-scan2 .ensures))
           (scanned-end (c .before .next-of .result) r (f .docid-room) (f .body-room)
           (next minima) (l .inv .10 minima .0)
-          (subst (Scanned (a .leaves .now) (l .docids) (l .bodies) (a .lasts .now) (a .masks .now) (a .follows .now) (a .n) (l .starts) (l .matched) (a .docid) gs (l .scan)) q (l .inv .11 gs r))),
-      (
-        λ h m. let p = l .inv .10 m in
-            subst (RowNext (a .docid) (a .n) (a .docids .now) (l .docids) (l .mins)) (sym (c .end-scan2 .ensures))
-            (record { minima = p .0; next-is = next m; rest-is = p .2 ∙ ap (λ (k : ℕ). leastOf (otherThan (a .docid) (take k (a .docids .now)))) q }),
-        (
+          (subst (Scanned (a .leaves .now) (l .docids) (l .bodies) (a .lasts .now) (a .masks .now) (a .follows .now) (a .n) (l .starts) (l .matched) (a .docid) gs (l .scan)) q (l .inv .11 gs r)));
+      next =
+          λ h m. let p = l .inv .10 m in
+          subst (RowNext (a .docid) (a .n) (a .docids .now) (l .docids) (l .mins)) (sym (c .end-scan2 .ensures))
+          (record { minima = p .0; next-is = next m; rest-is = p .2 ∙ ap (λ (k : ℕ). leastOf (otherThan (a .docid) (take k (a .docids .now)))) q });
+      otherwise =
           λ o. absurd (o (record {
             cursor-room = record { docid-room = omega (arith, f .docid-room, l .inv .2); body-room = omega (arith, f .body-room, l .inv .3); last-room = f .last-room; mask-room = f .mask-room; follow-room = f .follow-room };
             min-room = omega (arith, l .inv .1, l .inv .4);
             start-room = omega (arith, f .start-room, l .inv .5);
             matched-room = omega (arith, f .matched-room, l .inv .6);
-          })),
-          (
-            subst (λ (t : Taken). RowFrame (a .docid) (a .n) (a .docids .now) (l .docids) (a .bodies .now) (l .bodies) (a .starts .now) (l .starts) (a .matched .now) (l .matched) (t .hits) (t .taken) (t .last)) (sym (c .end-scan2 .ensures))
-                (subst (λ (k : ℕ). RowFrame (a .docid) k (a .docids .now) (l .docids) (a .bodies .now) (l .bodies) (a .starts .now) (l .starts) (a .matched .now) (l .matched) (l .scan .hits) (l .scan .taken) (l .scan .last)) q (l .inv .12)),
-            l .inv .13,
-          ),
-        ),
-      ),
-    )
+          }));
+      frame =
+          subst (λ (t : Taken). RowFrame (a .docid) (a .n) (a .docids .now) (l .docids) (a .bodies .now) (l .bodies) (a .starts .now) (l .starts) (a .matched .now) (l .matched) (t .hits) (t .taken) (t .last)) (sym (c .end-scan2 .ensures))
+          (subst (λ (k : ℕ). RowFrame (a .docid) k (a .docids .now) (l .docids) (a .bodies .now) (l .bodies) (a .starts .now) (l .starts) (a .matched .now) (l .matched) (l .scan .hits) (l .scan .taken) (l .scan .last)) q (l .inv .12));
+      minima-kept = l .inv .13;
+    }
 
 pub advance-spec : {M : Type 1} → statement M
 advance-spec =

@@ -16,24 +16,26 @@ use Rattle.cursors.proofs.pass.Statement.{statement}
 use Rattle.cursors.proofs.pass.Tie as tie
 
 returns : tie.Need-returns
-returns c = (
-  λ masks follows gs are minima inside top others. absurd (omega arith),
-  (λ o. record { answer = refl; docids-same = refl; bodies-same = refl; mins-same = refl }, λ h m. absurd (omega arith)),
-)
+returns c =
+    record {
+      content = λ masks follows gs are minima inside top others. absurd (omega arith);
+      otherwise = λ o. record { answer = refl; cursors-same = refl };
+      frame = λ h m. absurd (omega arith);
+    }
 
 can-move-requires : tie.Need-can-move-requires
 can-move-requires c κs = search needs
 
 returns-2 : tie.Need-returns-2
 returns-2 c =
-    let no = not-true _ (c .if2 .taken) in (
-      λ masks follows gs are minima inside top others.
-          let h = are .hold .room in absurd (false-not-true {X = ⊥} (sym no ∙ c .before .can-move .ensures .1 (h .docid-room, h .body-room, h .last-room, minima .room))),
-      (
-        λ o. record { answer = refl; docids-same = refl; bodies-same = refl; mins-same = refl },
-        λ h m. absurd (false-not-true {X = ⊥} (sym no ∙ c .before .can-move .ensures .1 (m .docid-room, m .body-room, m .last-room, m .min-room))),
-      ),
-    )
+    let no = not-true _ (c .if2 .taken) in
+    record {
+      content =
+          λ masks follows gs are minima inside top others.
+          let h = are .hold .room in absurd (false-not-true {X = ⊥} (sym no ∙ c .before .can-move .ensures .1 (h .docid-room, h .body-room, h .last-room, minima .room)));
+      otherwise = λ o. record { answer = refl; cursors-same = refl };
+      frame = λ h m. absurd (false-not-true {X = ⊥} (sym no ∙ c .before .can-move .ensures .1 (m .docid-room, m .body-room, m .last-room, m .min-room)));
+    }
 
 mul-place-from : tie.Need-mul-place-from
 mul-place-from c = search (needs, c .before .can-move .ensures .0 (not-false _ (c .if2 .left)))
@@ -126,28 +128,29 @@ returns-3 c =
     let q : b * blockSize ≡ blockSize * b = omega arith in
     let ends : to ≡ min (a .n) (blockSize * b + blockSize) = omega (arith, c .before .before .before .before .before .block-end .ensures) in
     let least = c .before .before .least-of .ensures ∙ ap (λ (x : ℕ). leastOf (part moved x to)) q in
-    let room = c .before .before .before .before .before .before .before .before .before .before .before .can-move .ensures .0 (not-false _ (c .before .before .before .before .before .before .before .before .before .before .if2 .left)) in (
-      λ masks follows gs are minima inside top others.
+    let room = c .before .before .before .before .before .before .before .before .before .before .before .can-move .ensures .0 (not-false _ (c .before .before .before .before .before .before .before .before .before .before .if2 .left)) in
+    record {
+      content =
+          λ masks follows gs are minima inside top others.
           let mins : MinimaAre moved (a .n) (set (a .mins .now) b m) =
           minima-set moved (a .mins .now) (a .n) b to m (omega (arith, are .hold .room .docid-room)) (minima .room) (omega arith) ends least docids minima dl
           (λ k o. getD-set-other docids (a .i) k (place .docid) 0 (λ (e : k ≡ a .i). o (omega arith) (omega (arith, c .before .before .before .before .before .block-end .ensures)))) in
           passed (a .i) (a .rest) gs are inside others (place .docid) (place .body) (c .before .before .before .before .before .before .place-from .ensures .0 (getD (cursors gs) (a .i) noCursor .left) (are .small) (are .hold .each (a .i) inside .list))
-          (set (a .mins .now) b m) (c .least-block .result) mins (c .least-block .ensures .1 moved (omega (arith, are .hold .room .docid-room)) mins (passed-from (a .i) (a .rest) gs are inside others (place .docid) top low)),
-      (
-        λ o. absurd (o (omega arith, record { docid-room = room .0; body-room = room .1; last-room = room .2; min-room = room .3 })),
-        λ inside h.
-            record {
-              docid = place .docid;
-              body = place .body;
-              reached = low;
-              stays = c .before .before .before .before .before .before .place-from .ensures .1 .1;
-              docids-are = refl;
-              bodies-are = refl;
-              mins-are = ap (set (a .mins .now) b) (least ∙ ap leastOf (sym (block-part moved (a .n) b (omega (arith, h .docid-room)) to ends)));
-              next-is = c .least-block .ensures .0;
-            },
-      ),
-    )
+          (set (a .mins .now) b m) (c .least-block .result) mins (c .least-block .ensures .1 moved (omega (arith, are .hold .room .docid-room)) mins (passed-from (a .i) (a .rest) gs are inside others (place .docid) top low));
+      otherwise = λ o. absurd (o (omega arith, record { docid-room = room .0; body-room = room .1; last-room = room .2; min-room = room .3 }));
+      frame =
+          λ inside h.
+          record {
+            docid = place .docid;
+            body = place .body;
+            reached = low;
+            stays = c .before .before .before .before .before .before .place-from .ensures .1 .1;
+            docids-are = refl;
+            bodies-are = refl;
+            mins-are = ap (set (a .mins .now) b) (least ∙ ap leastOf (sym (block-part moved (a .n) b (omega (arith, h .docid-room)) to ends)));
+            next-is = c .least-block .ensures .0;
+          };
+    }
 
 pub pass-spec : {M : Type 1} → statement M
 pass-spec =

@@ -34,14 +34,14 @@ is-able-requires : tie.Need-is-able-requires Inv-loop μ-loop
 is-able-requires c κs = search needs
 
 returns : tie.Need-returns Inv-loop μ-loop
-returns c = (
-  λ nodes columns terms w h r rooms.
-      false-not-true (sym (not-true _ (c .if1 .taken)) ∙ c .before .is-able .ensures .1 (h .cuts, h .few, h .small, rooms .0, rooms .1, rooms .2, rooms .3)),
-  (
-    λ o. record { answer = refl; same = refl },
-    frame-none _ _,
-  ),
-)
+returns c =
+    record {
+      content =
+          λ nodes columns terms w h r rooms.
+          false-not-true (sym (not-true _ (c .if1 .taken)) ∙ c .before .is-able .ensures .1 (h .cuts, h .few, h .small, rooms .0, rooms .1, rooms .2, rooms .3));
+      otherwise = λ o. record { answer = refl; same = refl };
+      frame = frame-none _ _;
+    }
 
 fronts-of-requires : tie.Need-fronts-of-requires Inv-loop μ-loop
 fronts-of-requires c κs = let k = c .before .is-able .ensures .0 (not-false _ (c .if1 .left)) in (k .0, k .1, k .2)
@@ -82,15 +82,15 @@ returns-2 : tie.Need-returns-2 Inv-loop μ-loop
 returns-2 c =
     let l = c .before .before .loop in
     let a = c .before .before .before .before .before .before .before .before .before .before .before .before .before .before .before .before .args in
-    let k = l .inv .0 in (
-      λ nodes columns terms w h r _.
+    let k = l .inv .0 in
+    record {
+      content =
+          λ nodes columns terms w h r _.
           going-end nodes columns terms (a .leaves .now) (a .ends .now) (l .fronts) (arrays (l .docids) (l .bodies) (l .lasts) (l .masks) (l .follows)) (l .n) (c .before .least .result)
-          (l .inv .1 nodes columns terms w h r) (c .before .least .ensures) h (c .if2 .taken),
-      (
-        not-opened (k .openable),
-        l .inv .2,
-      ),
-    )
+          (l .inv .1 nodes columns terms w h r) (c .before .least .ensures) h (c .if2 .taken);
+      otherwise = not-opened (k .openable);
+      frame = l .inv .2;
+    }
 
 mul-front : tie.Need-mul-front Inv-loop μ-loop
 mul-front c = omega (arith, c .before .before .loop .inv .0 .openable .few, c .if2 .left)
@@ -130,17 +130,18 @@ returns-3 c =
     let given : Arrays = arrays (a .docids .now) (a .bodies .now) (a .lasts .now) (a .masks .now) (a .follows .now) in
     let z = l .inv .2 .docids-kept .size in
     let v = l .inv .0 in
-    let q : taken .result .n ≡ l .n = omega (arith, c .if3 .taken, taken .ensures .0 .1) in (
-      λ nodes columns terms w h r _.
+    let q : taken .result .n ≡ l .n = omega (arith, c .if3 .taken, taken .ensures .0 .1) in
+    record {
+      content =
+          λ nodes columns terms w h r _.
           let next = going-next nodes columns terms (a .leaves .now) (a .ends .now) (l .fronts) (arrays (l .docids) (l .bodies) (l .lasts) (l .masks) (l .follows)) (l .n) (least .result)
           (l .inv .1 nodes columns terms w h r) (least .ensures) (c .before .before .before .before .before .before .before .before .before .before .before .before .before .before .before .before .before .before .before .if2 .left) held (taken .result) h (omega (arith, r, z)) (λ left cs. taken .ensures .1 .0 nodes columns left cs w) in
-          absurd (omega (arith, next .0, c .if3 .taken)),
-      (
-        not-opened (v .openable),
-        subst (OpenFrame (a .leaves .now) given held) q
-            (taken .ensures .1 .1 given (sym z) (l .inv .2)),
-      ),
-    )
+          absurd (omega (arith, next .0, c .if3 .taken));
+      otherwise = not-opened (v .openable);
+      frame =
+          subst (OpenFrame (a .leaves .now) given held) q
+          (taken .ensures .1 .1 given (sym z) (l .inv .2));
+    }
 
 loop-less : tie.Need-loop-less Inv-loop μ-loop
 loop-less c = omega (arith, c .before .if3 .left, c .before .before .before .before .before .before .before .before .before .before .before .before .before .take-word .ensures .0 .0 .within, c .before .before .before .before .before .before .before .before .before .before .before .before .before .before .before .before .before .before .before .before .before .before .loop .inv .2 .docids-kept .size)
