@@ -4,6 +4,7 @@ pub mod Phrases
 pub mod Runs
 pub mod RunSteps
 pub mod TokenLaws
+pub mod Places
 pub mod Numbers
 pub mod WordLaws
 pub mod PhraseSteps
@@ -11,6 +12,4 @@ pub mod LexSteps
 pub mod Nodes
 pub mod Packing
 pub mod TokenNodes
-pub mod Answers
-pub mod LexLaws
 pub mod Examples

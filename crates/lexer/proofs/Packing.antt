@@ -15,7 +15,7 @@ use Rattle.common.proofs.Rooms.{drop-replicate}
 use Rattle.common.specs.Bounds.{maxWord}
 use Rattle.lexer.specs.Token.{Node, maxQuery, maxWords, tieNumber, tieDistance, markOf, padded, nodeBytes, nodeEnds, nodeMap, packed}
 use Rattle.lexer.specs.Tokens.{each}
-use Rattle.lexer.specs.Filling.{WordEntry, textEnd, hasRoom, placed, added, overfull, pushWord, pushWords, entry}
+use Rattle.lexer.specs.Filling.{WordEntry, textEnd, hasRoom, placed, added, overfull, pushWord, pushWords, nodeEntry}
 use Rattle.lexer.specs.declared.Words.{Words}
 use Rattle.lexer.proofs.WordLaws.{pushed-added}
 use Rattle.lexer.proofs.PhraseSteps.{overfull-stays}
@@ -52,10 +52,6 @@ packed-end (n ∷ ns) =
     (List·getD-append (nodeEnds 0 (n ∷ ns)) (replicate (maxWords - length (nodeEnds 0 (n ∷ ns))) 0) 0 (length ns) l ∙ last-end 0 n ns ∙ omega arith)
 
 -- ---- words within the bounds are packed
-
--- a word as it goes into the arrays
-abbrev pub nodeEntry : Node → WordEntry
-nodeEntry n = entry (tieNumber (n .tie)) (tieDistance (n .tie)) (n .columns) (n .word)
 
 abbrev pub sizeOf : Node → ℕ
 sizeOf n = length (n .word .bytes)
@@ -98,6 +94,11 @@ module _ (ns : List Node) (n : Node) (few : length ns < maxWords) where
 module _ (ns : List Node) (n : Node) where
   pushed-packed : length ns < maxWords → sizeOf n ≤ maxWord → length (nodeBytes ns) + sizeOf n ≤ maxQuery → pushWord (packed ns) (nodeEntry n) ≡ packed (ns ++ n ∷ [])
   pushed-packed few short room = sym (pushed-added (packed ns) (nodeEntry n) few short (omega (arith, packed-end ns))) ∙ added-packed ns n few
+
+pub pushes-append : (es fs : List WordEntry) (w : Words) → pushWords (pushWords w es) fs ≡ pushWords w (es ++ fs)
+unfolding pushWords
+pushes-append [] fs w = refl
+pushes-append (e ∷ es) fs w = pushes-append es fs (pushWord w e)
 
 -- all lengths are within the bound on a word
 abbrev pub shortSizes : List Node → Bool

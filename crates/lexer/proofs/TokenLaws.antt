@@ -107,7 +107,7 @@ module _ (names : List (List ℕ)) where
 
   -- ---- the tokens are found
 
-  found-space : (b : ℕ) (s : List ℕ) → isSpace b ≡ true → nextToken names (b ∷ s) ≡ blank
+  pub found-space : (b : ℕ) (s : List ℕ) → isSpace b ≡ true → nextToken names (b ∷ s) ≡ blank
   unfolding nextToken
   found-space b s e = rw e
 

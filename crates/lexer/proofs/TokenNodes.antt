@@ -3,28 +3,25 @@ use Prim.Native.Nat.{ℕ, _≤_}
 use native.Mathlib.Omega.{arith}
 use mathlib.Core.Path.{_≡_, refl, sym, ap, _∙_}
 use mathlib.Core.Logic.{_↔_}
-use mathlib.Core.Bool.{true}
-use mathlib.Core.List.{List, [], _∷_, _++_, map, append-nil, append-assoc}
+use mathlib.Core.Bool.{Bool, true}
+use mathlib.Core.List.{List, [], _∷_, _++_, map, append-nil}
 use lib.ListN.{length, getD, length-append, length-map}
 use lib.Dec.{leb}
 use borrow.Author.Tests.{leb-true, le-leb}
 use Rattle.common.proofs.Cases.{both-left, both-right, both-true}
 use Rattle.common.specs.Bounds.{maxWord}
 use Rattle.tokenizer.specs.Word.{fold}
-use Rattle.lexer.specs.Token.{QueryWord, anyColumn, Token, lparen, rparen, AND, OR, NOT, NEAR, operand, Tie, begins, continues, phraseNodes, tokenNodes, maxWords, tieNumber, tieDistance, nodeBytes}
+use Rattle.lexer.specs.Token.{QueryWord, anyColumn, Token, lparen, rparen, AND, OR, NOT, NEAR, operand, Tie, begins, continues, Node, phraseNodes, tokenNodes, maxQuery, maxWords, tieNumber, tieDistance, nodeBytes, packed}
 use Rattle.lexer.specs.Tokens.{quoteByte, colonByte, each, mark, PhraseWords, none, separator, word, RunToken, and-run, or-run, not-run, near-run, written-run, word-run, column-run, Tokens, end, space, open-paren, close-paren, quote, run}
 use Rattle.lexer.specs.Lexing.{wordSizes, Within, isWithin}
-use Rattle.lexer.specs.Filling.{phraseEntries, nextTie, tokenEntries}
+use Rattle.lexer.specs.Filling.{pushWords, phraseEntries, nodeEntry}
+use Rattle.lexer.specs.Looking.{nextTie}
 use Rattle.lexer.proofs.Stretches.{each-at, each-all}
-use Rattle.lexer.proofs.Nodes.{bytes-append}
-use Rattle.lexer.proofs.Packing.{nodeEntry}
+use Rattle.lexer.specs.declared.Words.{Words}
+use Rattle.lexer.proofs.Nodes.{length-nodeMap, bytes-append}
+use Rattle.lexer.proofs.Packing.{sizeOf, shortSizes, all-packed, fitted}
 
 -- ---- token by token
-
--- what ties an operand after a row of tokens
-abbrev pub tieAt : Tie → List Token → Tie
-tieAt t [] = t
-tieAt t (u ∷ us) = tieAt (nextTie u) us
 
 nodes-cons : (t : Tie) (u : Token) (us : List Token) → tokenNodes t (u ∷ us) ≡ tokenNodes t (u ∷ []) ++ tokenNodes (nextTie u) us
 nodes-cons t lparen us = refl
@@ -35,31 +32,11 @@ nodes-cons t NOT us = refl
 nodes-cons t (NEAR d) us = refl
 nodes-cons t (operand p) us = ap (λ x. x ++ tokenNodes begins us) (sym (append-nil (phraseNodes t (p .columns) (p .words))))
 
-pub nodes-snoc : (t : Tie) (us : List Token) (u : Token) → tokenNodes t (us ++ u ∷ []) ≡ tokenNodes t us ++ tokenNodes (tieAt t us) (u ∷ [])
-nodes-snoc t [] u = refl
-nodes-snoc t (v ∷ us) u =
-    nodes-cons t v (us ++ u ∷ [])
-    ∙ ap (λ x. tokenNodes t (v ∷ []) ++ x) (nodes-snoc (nextTie v) us u)
-    ∙ sym (append-assoc (tokenNodes t (v ∷ [])) (tokenNodes (nextTie v) us) (tokenNodes (tieAt (nextTie v) us) (u ∷ [])))
-    ∙ ap (λ x. x ++ tokenNodes (tieAt (nextTie v) us) (u ∷ [])) (sym (nodes-cons t v us))
-
-pub tie-snoc : (t : Tie) (us : List Token) (u : Token) → tieAt t (us ++ u ∷ []) ≡ nextTie u
-tie-snoc t [] u = refl
-tie-snoc t (v ∷ us) u = tie-snoc (nextTie v) us u
-
-phrase-entries : (t : Tie) (columns : ℕ) (ws : List QueryWord) → phraseEntries (tieNumber t) (tieDistance t) columns ws ≡ map nodeEntry (phraseNodes t columns ws)
+-- the words of a phrase, as they go into the arrays
+pub phrase-entries : (t : Tie) (columns : ℕ) (ws : List QueryWord) → phraseEntries (tieNumber t) (tieDistance t) columns ws ≡ map nodeEntry (phraseNodes t columns ws)
 unfolding phraseEntries
 phrase-entries t columns [] = refl
 phrase-entries t columns (w ∷ ws) = ap (λ x. nodeEntry (record { tie = t; word = w; columns = columns }) ∷ x) (phrase-entries continues columns ws)
-
-pub token-entries : (t : Tie) (u : Token) → tokenEntries (tieNumber t) (tieDistance t) u ≡ map nodeEntry (tokenNodes t (u ∷ []))
-token-entries t lparen = refl
-token-entries t rparen = refl
-token-entries t AND = refl
-token-entries t OR = refl
-token-entries t NOT = refl
-token-entries t (NEAR d) = refl
-token-entries t (operand p) = phrase-entries t (p .columns) (p .words) ∙ ap (map nodeEntry) (sym (append-nil (phraseNodes t (p .columns) (p .words))))
 
 -- ---- a query's words have no more bytes than the query
 
@@ -115,3 +92,32 @@ within-law ts = (to, from)
     from w =
         both-true (leb (length ns) maxWords) (each (λ n. leb n maxWord) ns) (le-leb (length ns) maxWords (w .few))
         (each-all (λ n. leb n maxWord) ns (λ i h. le-leb (getD ns i 0) maxWord (w .short i h)))
+
+-- ---- the words of a query in its arrays
+
+module _ {names : List (List ℕ)} {s : List ℕ} {ts : List Token} (reads : Tokens names s ts) (size : length s ≤ maxQuery) where
+  abbrev nodes : List Node
+  nodes = tokenNodes begins ts
+
+  abbrev few : Bool
+  few = leb (length (wordSizes ts)) maxWords
+
+  sizes-length : length (wordSizes ts) ≡ length nodes
+  sizes-length = length-nodeMap sizeOf nodes
+
+  -- words within the bounds are packed
+  pub words-packed : isWithin ts ≡ true → pushWords (packed []) (map nodeEntry nodes) ≡ packed nodes
+  words-packed w =
+      let f = leb-true (length (wordSizes ts)) maxWords (both-left few (shortSizes nodes) w) in
+      all-packed nodes (omega (arith, sizes-length)) (both-right few (shortSizes nodes) w) (omega (arith, tokens-bytes reads begins))
+
+  pub packed-few : isWithin ts ≡ true → pushWords (packed []) (map nodeEntry nodes) .count ≤ maxWords
+  packed-few w =
+      let f = leb-true (length (wordSizes ts)) maxWords (both-left few (shortSizes nodes) w) in
+      omega (arith, ap (λ (x : Words). x .count) (words-packed w), sizes-length)
+
+  -- and a count within the bound tells that they are
+  pub words-within : pushWords (packed []) (map nodeEntry nodes) .count ≤ maxWords → isWithin ts ≡ true
+  words-within h =
+      let f = fitted nodes (packed []) h in
+      both-true few (shortSizes nodes) (le-leb (length (wordSizes ts)) maxWords (omega (arith, sizes-length, f .0))) (f .1)

@@ -1,12 +1,9 @@
--- What the lexer hands out: `Lexes` says it, with document 01's bounds on a query's bytes and words in `QueryTokens`. Below
--- that, `lexOf` goes through the bytes from the left, one token at a time, as the code does; the crate proves that it
--- finds exactly the tokens of `Tokens`.
+-- The tokens of a query within document 01's bounds on its bytes and words: `QueryTokens`. Below that, `lexOf` goes through the
+-- bytes from the left, one token at a time (`nextToken`); the crate proves that it finds exactly the tokens of `Tokens`.
 use Prim.Native.Nat.{ℕ, zero, suc, _+_, _≤_, _<_}
-use mathlib.Core.Path.{_≡_}
-use mathlib.Core.Logic.{_↔_}
-use mathlib.Core.Bool.{Bool, true, false}
+use mathlib.Core.Bool.{Bool}
 use mathlib.Core.List.{List, [], _∷_, map}
-use lib.ListN.{length, getD, take, drop, replicate}
+use lib.ListN.{length, getD, take, drop}
 use lib.Dec.{eqb, leb, ltb}
 use Rattle.common.specs.Pick.{pick, both, either}
 use Rattle.common.specs.Bytes.{span, same, within}
@@ -15,9 +12,8 @@ use Rattle.tokenizer.specs.Word.{isWord, isDigit, Place, places, wordAt}
 use Rattle.offsets.specs.Names.{isNameByte, columnOf}
 use Rattle.offsets.specs.declared.Column.{Column}
 use Rattle.offsets.specs.declared.Column.the-variants.{At, Unknown}
-use Rattle.lexer.specs.Token.{QueryWord, anyColumn, onlyColumn, bare, written, Token, lparen, rparen, AND, OR, NOT, NEAR, operand, kindOf, begins, tokenNodes, maxQuery, maxWords, padded, nodeMap, packed}
+use Rattle.lexer.specs.Token.{QueryWord, anyColumn, onlyColumn, bare, written, Token, lparen, rparen, AND, OR, NOT, NEAR, operand, begins, tokenNodes, maxQuery, maxWords, nodeMap}
 use Rattle.lexer.specs.Tokens.{openByte, closeByte, quoteByte, starByte, colonByte, isSpace, isRunByte, isInner, each, bytesAND, bytesOR, bytesNOT, bytesNEAR, bytesNEARSlash, decimal, Tokens}
-use Rattle.lexer.specs.declared.Lexed.{Lexed}
 
 -- ---- the bounds
 
@@ -35,25 +31,6 @@ pub record QueryTokens (names : List (List ℕ)) (s : List ℕ) (ts : List Token
   pub reads : Tokens names s ts
   pub size : length s ≤ maxQuery
   pub words : Within ts
-
--- ---- the answer
-
-abbrev pub kindsOf : List Token → List ℕ
-kindsOf ts = map kindOf ts
-
--- for the tokens of a query
-abbrev pub lexed : List Token → Lexed
-lexed ts = record { ok = true; kinds = padded maxQuery (kindsOf ts); count = length ts; words = packed (tokenNodes begins ts) }
-
--- for any other bytes
-abbrev pub refusedLex : Lexed
-refusedLex = record { ok = false; kinds = replicate maxQuery 0; count = 0; words = packed [] }
-
--- what an answer is: accepted exactly for a query, with the query's tokens; else the refusal
-pub record Lexes (names : List (List ℕ)) (s : List ℕ) (r : Lexed) : Type 0 where
-  pub accepted : (r .ok ≡ true) ↔ ((ts : List Token) × QueryTokens names s ts)
-  pub content : (ts : List Token) → QueryTokens names s ts → r ≡ lexed ts
-  pub otherwise : r .ok ≡ false → r ≡ refusedLex
 
 -- ---- how the next token is found
 
@@ -169,15 +146,7 @@ lexIn (suc steps) names s = andThen (nextToken names s) (λ n. lexIn steps names
 abbrev pub lexOf : List (List ℕ) → List ℕ → Lexing
 lexOf names s = lexIn (suc (length s)) names s
 
--- ---- the answer, as the code finds it
+-- ---- the bounds, computed
 
--- whether the bounds on words are kept
 abbrev pub isWithin : List Token → Bool
 isWithin ts = both (leb (length (wordSizes ts)) maxWords) (each (λ n. leb n maxWord) (wordSizes ts))
-
-abbrev pub answer : Lexing → Lexed
-answer (tokens ts) = pick (isWithin ts) (lexed ts) refusedLex
-answer refused = refusedLex
-
-abbrev pub lexedOf : List (List ℕ) → List ℕ → Lexed
-lexedOf names s = pick (leb (length s) maxQuery) (answer (lexOf names s)) refusedLex

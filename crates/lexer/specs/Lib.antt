@@ -3,3 +3,4 @@ pub mod Token
 pub mod Tokens
 pub mod Lexing
 pub mod Filling
+pub mod Looking

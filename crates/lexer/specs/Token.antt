@@ -50,6 +50,26 @@ kindOf NOT = 4
 kindOf (NEAR n) = 5
 kindOf (operand p) = 6
 
+-- the kinds of NEAR and of operands, whatever they carry, and one for no token
+abbrev pub nearKind : ℕ
+nearKind = 5
+
+abbrev pub operandKind : ℕ
+operandKind = 6
+
+abbrev pub endKind : ℕ
+endKind = 7
+
+-- the kind of the token at the front
+abbrev pub frontKind : List Token → ℕ
+frontKind [] = endKind
+frontKind (t ∷ ts) = kindOf t
+
+-- the tokens after it
+abbrev pub afterFront : List Token → List Token
+afterFront [] = []
+afterFront (t ∷ ts) = ts
+
 -- ---- the words of a query, in order, each with how it is tied to the one before
 
 pub data Tie : Type 0 where

@@ -1,31 +1,26 @@
-// The tokens of a query (document 01, "The query language").
+// The tokens of a query (document 01, "The query language"), each read where it stands in the query's bytes:
 //
 //     bytes      up AND "Next HOP*" NEAR/3 node:x
-//     kinds      6  2   6           5      6
+//     kinds      6  2   6           5      6        7 after them
 //
-// The words of all operands stand in flat arrays, their bytes in one text:
-//
-//     text       u p n e x t h o p x
-//     ends           2       6     9 10
-//     marks          0       0     1 0
-//     ties           0       0     1 3
-//     distances      0       0     0 3
+// `look` says what comes next without taking it; `take_operand` reads a word or phrase and puts its words into lent arrays
+// (module arrays).
+mod arrays;
+
 ghost use mathlib.Core.Path.{_≡_};
-ghost use mathlib.Core.Bool.{true};
-ghost use Prim.Native.Nat.{_+_, _≤_, _<_};
-ghost use mathlib.Core.List.{map, []};
-ghost use lib.ListN.{length, getD, drop};
-ghost use lib.Dec.{eqb, ltb};
-ghost use Rattle.common.specs.Pick.{pick};
-ghost use Rattle.common.specs.Bytes.{span, same};
-ghost use Rattle.common.specs.Bounds.{maxWord, maxColumns};
-ghost use Rattle.tokenizer.specs.Word.{isDigit, fold, places};
+ghost use mathlib.Core.Bool.{true, false};
+ghost use Prim.Native.Nat.{_+_, _≤_, _<_, _^_};
+ghost use lib.ListN.{length, drop};
+ghost use lib.Dec.{ltb};
+ghost use Rattle.common.specs.Bytes.{span};
+ghost use Rattle.common.specs.Bounds.{maxColumns};
+ghost use Rattle.tokenizer.specs.Word.{isDigit, places};
 ghost use Rattle.offsets.specs.Cut.{cut};
-ghost use Rattle.offsets.specs.Names.{isNameByte};
-ghost use Rattle.lexer.specs.Token.{onlyColumn, maxQuery, maxWords, packed};
-ghost use Rattle.lexer.specs.Tokens.{isSpace, isRunByte, starByte, each, decimal};
-ghost use Rattle.lexer.specs.Lexing.{isStem, isNearWritten, phraseWords, phraseOf, token, columnRun, operatorOf, runNext, quoteNext, nextToken, refusedLex, lexedOf, Lexes};
-ghost use Rattle.lexer.specs.Filling.{inClass, textEnd, placed, overfull, pushWord, pushWords, phraseEntries, plainSign, signOf, withToken, skipped, stopped, movedOn, started};
+ghost use Rattle.lexer.specs.Token.{onlyColumn};
+ghost use Rattle.lexer.specs.Tokens.{isSpace, isRunByte, each, decimal};
+ghost use Rattle.lexer.specs.Lexing.{isStem, isNearWritten, phraseWords, columnRun, operatorOf, runNext, quoteNext, nextToken};
+ghost use Rattle.lexer.specs.Filling.{wordsOf, pushWords, phraseEntries};
+ghost use Rattle.lexer.specs.Looking.{inClass, afterSpace, plainSign, signOf, ahead, lookAt, LooksAt, operandIn, Takes, TakesAt};
 
 // A query has at most 512 bytes.
 pub const MAX_QUERY: usize = 512;
@@ -48,6 +43,9 @@ pub const NEAR: u8 = 5;
 
 pub const OPERAND: u8 = 6;
 
+// The kind of no token: the query ends.
+pub const END: u8 = 7;
+
 // How a word is tied to the one before: it begins an operand of AND, OR or NOT, is the next word of its phrase, or
 // begins the phrase after a NEAR without or with a number.
 pub const BEGINS: u8 = 0;
@@ -57,9 +55,6 @@ pub const CONTINUES: u8 = 1;
 pub const NEARS: u8 = 2;
 
 pub const NEARS_WITHIN: u8 = 3;
-
-// A count that no query has: it tells that a word had no room.
-const OVERFULL: usize = MAX_WORDS + 1;
 
 // The set of all columns.
 pub const ANY_COLUMN: u16 = 65535;
@@ -96,27 +91,24 @@ pub struct Words {
     pub count: usize,
 }
 
-// What a query's bytes are.
-pub struct Lexed {
-    // Whether they are tokens, within the bounds on bytes and words.
-    pub ok: bool,
-    // The kind of each token, in order.
-    pub kinds: [u8; MAX_QUERY],
-    pub count: usize,
-    pub words: Words,
+// What comes next in a query.
+pub struct Ahead {
+    pub kind: u8,
+    // What ties an operand that comes after it.
+    pub tie: u8,
+    pub distance: u16,
+    // Where it ends, unless it is an operand.
+    pub next: usize,
 }
 
-// What the lexer knows after some of the tokens.
-struct State {
-    // Whether all bytes up to `at` are tokens.
-    ok: bool,
-    at: usize,
-    kinds: [u8; MAX_QUERY],
-    count: usize,
-    words: Words,
-    // What ties an operand that comes next.
-    tie: u8,
-    distance: u16,
+// A word or phrase that was read.
+pub struct Taken {
+    // Whether one stands there.
+    pub ok: bool,
+    // Where it ends.
+    pub next: usize,
+    // How many words there are then.
+    pub count: usize,
 }
 
 // A token's kind, and what it ties an operand after it by.
@@ -245,124 +237,6 @@ fn only_column(c: usize) -> u16
     1u16 << c
 }
 
-fn no_words() -> Words
-    ensures { λ r. ⌜ r ≡ packed [] ⌝ }
-{
-    Words {
-        text: [0; MAX_QUERY],
-        ends: [0; MAX_WORDS],
-        marks: [0; MAX_WORDS],
-        columns: [0; MAX_WORDS],
-        ties: [0; MAX_WORDS],
-        distances: [0; MAX_WORDS],
-        count: 0,
-    }
-}
-
-// Where the last word's bytes end.
-fn text_end(words: Words) -> u16
-    requires { ⌜ words .count ≤ maxWords ⌝ }
-    ensures { λ r. ⌜ r ≡ textEnd words ⌝ }
-{
-    let n = words.count;
-    if n == 0 {
-        return 0;
-    }
-    let last = n - 1;
-    words.ends[last]
-}
-
-// The text with the bytes of a word, folded, from a place on.
-fn with_word(text: [u8; MAX_QUERY], at: usize, s: &[u8]) -> [u8; MAX_QUERY]
-    requires { ⌜ at + length (now s) ≤ maxQuery ⌝ }
-    ensures { λ r. ⌜ r ≡ placed text at (map fold (now (s .entry))) ⌝ }
-{
-    let mut t = text;
-    let mut i = 0;
-    while i < s.len() {
-        t[at + i] = tokenizer::folded(s[i]);
-        i += 1;
-    }
-    t
-}
-
-// The words, where one more had no room: it was the 17th or had over 64 bytes.
-fn overfilled(words: Words) -> Words
-    ensures { λ r. ⌜ r ≡ overfull words ⌝ }
-{
-    let mut w = words;
-    w.count = OVERFULL;
-    w
-}
-
-// The words with one more.
-fn push(words: Words, s: &[u8], mark: u8, columns: u16, tie: u8, distance: u16) -> Words
-    requires { ⌜ length (now s) ≤ maxWord ⌝ }
-    ensures { λ r. ⌜ r ≡ pushWord words (record { bytes = map fold (now (s .entry)); mark = mark; columns = columns; tie = tie; distance = distance }) ⌝ }
-{
-    let n = words.count;
-    if MAX_WORDS <= n {
-        return overfilled(words);
-    }
-    let from = text_end(words) as usize;
-    let end = from + s.len();
-    if MAX_QUERY < end {
-        return overfilled(words);
-    }
-    let mut w = words;
-    let text = words.text;
-    let written = with_word(text, from, s);
-    w.text = written;
-    w.ends[n] = end as u16;
-    w.marks[n] = mark;
-    w.columns[n] = columns;
-    w.ties[n] = tie;
-    w.distances[n] = distance;
-    w.count = n + 1;
-    w
-}
-
-// 1 for a `*` at a place.
-fn mark_at(s: &[u8], i: usize) -> u8
-    ensures { λ r. ⌜ r ≡ pick (eqb (getD (now (s .entry)) i 0) starByte) 1 0 ⌝ }
-{
-    if s.len() <= i {
-        return 0;
-    }
-    if s[i] == b'*' {
-        return 1;
-    }
-    0
-}
-
-// The words with those of a phrase.
-fn push_phrase(words: Words, s: &[u8], columns: u16, tie: u8, distance: u16) -> Words
-    ensures { λ r. ⌜ r ≡ pushWords words (phraseEntries tie distance columns (phraseWords (now (s .entry)))) ⌝ }
-{
-    let mut w = words;
-    let mut t = tie;
-    let mut d = distance;
-    let mut at = 0;
-    loop {
-        let next = tokenizer::next_word(s, at);
-        match next {
-            tokenizer::Word::Found { start, end } => {
-                let mark = mark_at(s, end);
-                w = push(w, &s[start..end], mark, columns, t, d);
-                t = CONTINUES;
-                d = 0;
-                at = end;
-            }
-            tokenizer::Word::Overlong { start: _, end: _ } => {
-                return overfilled(w);
-            }
-            tokenizer::Word::Nothing => {
-                return w;
-            }
-        }
-    }
-}
-
 // Whether there is a word.
 fn has_word(s: &[u8]) -> bool
     ensures { λ r. ⌜ r ≡ ltb 0 (length (places (now (s .entry)))) ⌝ }
@@ -373,97 +247,6 @@ fn has_word(s: &[u8]) -> bool
         tokenizer::Word::Overlong { start: _, end: _ } => true,
         tokenizer::Word::Nothing => false,
     }
-}
-
-// The state after a byte of white space.
-fn skip(st: State) -> State
-    requires { ⌜ st .at < maxQuery ⌝ }
-    ensures { λ r. ⌜ r ≡ skipped st ⌝ }
-{
-    let mut t = st;
-    t.at = st.at + 1;
-    t
-}
-
-// The state where no token stands.
-fn stop(st: State) -> State
-    ensures { λ r. ⌜ r ≡ stopped st ⌝ }
-{
-    let mut t = st;
-    t.ok = false;
-    t
-}
-
-// The state after a token of a kind that takes `size` bytes, and what ties an operand that comes next.
-fn with_kind(st: State, kind: u8, tie: u8, distance: u16, size: usize) -> State
-    requires { ⌜ (st .count < maxQuery) × (st .at + size ≤ maxQuery) ⌝ }
-    ensures { λ r. ⌜ r ≡ withToken st kind tie distance (st .words) size ⌝ }
-{
-    let mut t = st;
-    let n = st.count;
-    t.kinds[n] = kind;
-    t.count = n + 1;
-    t.at = st.at + size;
-    t.tie = tie;
-    t.distance = distance;
-    t
-}
-
-// The state after an operand that takes `size` bytes and has the words of `s`.
-fn with_phrase(st: State, s: &[u8], columns: u16, size: usize) -> State
-    requires { ⌜ (st .count < maxQuery) × (st .at + size ≤ maxQuery) ⌝ }
-    ensures { λ r. ⌜ r ≡ movedOn st (token (phraseOf (now (s .entry)) columns) size) ⌝ }
-{
-    let words = st.words;
-    let pushed = push_phrase(words, s, columns, st.tie, st.distance);
-    let mut t = with_kind(st, OPERAND, BEGINS, 0, size);
-    t.words = pushed;
-    t
-}
-
-// The state after a quoted phrase; `s` follows its opening quote, and both quotes are counted.
-fn quote_step(st: State, s: &[u8]) -> State
-    requires { ⌜ (st .count < maxQuery) × (st .at + 1 + length (now s) ≤ maxQuery) ⌝ }
-    ensures { λ r. ⌜ r ≡ movedOn st (quoteNext (now (s .entry))) ⌝ }
-{
-    let close = stretch(Class::Inner, s);
-    if s.len() <= close {
-        return stop(st);
-    }
-    let inner = &s[..close];
-    if !has_word(inner) {
-        return stop(st);
-    }
-    with_phrase(st, inner, ANY_COLUMN, close + 2)
-}
-
-// The state after a run that is a word with a column's name and `:` in front.
-fn column_step(names: &[u8], ends: &[u32], st: State, s: &[u8]) -> State
-    requires { ⌜ (st .count < maxQuery) × (st .at + length (now s) ≤ maxQuery) ⌝ }
-    ensures { λ r. ⌜ r ≡ movedOn st (columnRun (cut (now (names .entry)) (now (ends .entry))) (now (s .entry))) ⌝ }
-{
-    let n = stretch(Class::Name, s);
-    if n == 0 {
-        return stop(st);
-    }
-    if s.len() <= n {
-        return stop(st);
-    }
-    if s[n] != b':' {
-        return stop(st);
-    }
-    let text = &s[n + 1..];
-    if !is_stem(text) {
-        return stop(st);
-    }
-    let column = offsets::column_of(names, ends, &s[..n]);
-    let offsets::Column::At(c) = column else {
-        return stop(st);
-    };
-    if common::MAX_COLUMNS <= c {
-        return stop(st);
-    }
-    with_phrase(st, text, only_column(c), s.len())
 }
 
 // A kind whose tokens tie nothing.
@@ -508,98 +291,318 @@ fn operator_of(s: &[u8]) -> Sign
     plain(OPERAND)
 }
 
-// The state after a run.
-fn run_step(names: &[u8], ends: &[u32], st: State, s: &[u8]) -> State
-    requires { ⌜ (st .count < maxQuery) × (st .at + length (now s) ≤ maxQuery) ⌝ }
-    ensures { λ r. ⌜ r ≡ movedOn st (runNext (cut (now (names .entry)) (now (ends .entry))) (now (s .entry))) ⌝ }
+// What comes next, and where it ends.
+fn with_end(sign: Sign, next: usize) -> Ahead
+    ensures { λ r. ⌜ r ≡ ahead sign next ⌝ }
+{
+    Ahead {
+        kind: sign.kind,
+        tie: sign.tie,
+        distance: sign.distance,
+        next,
+    }
+}
+
+// The first place from `at` on that has no white space.
+fn skip(s: &[u8], at: usize) -> usize
+    ensures { λ r. ⌜ r ≡ afterSpace (now (s .entry)) at ⌝ }
+{
+    let mut i = at;
+    while i < s.len() {
+        if !is_space(s[i]) {
+            return i;
+        }
+        i += 1;
+    }
+    i
+}
+
+// What comes next in a query from the place `at` on. Of an operand only that it is one: `take_operand` reads it.
+pub fn look(s: &[u8], at: usize) -> Ahead
+    ensures reader { λ r. ⌜ r ≡ lookAt (now (s .entry)) at ⌝ }
+    ensures meaning { λ r. ⌜ LooksAt (now (s .entry)) at r ⌝ }
+{
+    let from = skip(s, at);
+    if s.len() <= from {
+        return with_end(plain(END), from);
+    }
+    let b = s[from];
+    if b == b'(' {
+        return with_end(plain(LPAREN), from + 1);
+    }
+    if b == b')' {
+        return with_end(plain(RPAREN), from + 1);
+    }
+    if b == b'"' {
+        return with_end(plain(OPERAND), from + 1);
+    }
+    let rest = &s[from..];
+    let n = stretch(Class::Run, rest);
+    with_end(operator_of(&rest[..n]), from + n)
+}
+
+// The answer where no word or phrase stands.
+fn nothing(count: usize) -> Taken
+    ensures { λ r. ⌜ r ≡ record { ok = false; next = 0; count = count } ⌝ }
+{
+    Taken {
+        ok: false,
+        next: 0,
+        count,
+    }
+}
+
+// The operand that has the words of `s` and ends at `next`.
+fn phrase(
+    text: &mut [u8; MAX_QUERY],
+    ends: &mut [u16; MAX_WORDS],
+    marks: &mut [u8; MAX_WORDS],
+    columns: &mut [u16; MAX_WORDS],
+    ties: &mut [u8; MAX_WORDS],
+    distances: &mut [u16; MAX_WORDS],
+    count: usize,
+    s: &[u8],
+    set: u16,
+    tie: u8,
+    distance: u16,
+    next: usize,
+) -> Taken
+    ensures { λ r. ⌜ (r .ok ≡ true) × (r .next ≡ next) × (wordsOf (now (text .exit)) (now (ends .exit)) (now (marks .exit)) (now (columns .exit)) (now (ties .exit)) (now (distances .exit)) (r .count) ≡ pushWords (wordsOf (now (text .entry)) (now (ends .entry)) (now (marks .entry)) (now (columns .entry)) (now (ties .entry)) (now (distances .entry)) count) (phraseEntries tie distance set (phraseWords (now (s .entry))))) ⌝ }
+{
+    let more = arrays::push_phrase(
+        text,
+        ends,
+        marks,
+        columns,
+        ties,
+        distances,
+        count,
+        s,
+        set,
+        tie,
+        distance,
+    );
+    Taken {
+        ok: true,
+        next,
+        count: more,
+    }
+}
+
+// Reads a quoted phrase, whose opening quote stands at the place `from`; `s` is what comes after that.
+fn quoted(
+    text: &mut [u8; MAX_QUERY],
+    ends: &mut [u16; MAX_WORDS],
+    marks: &mut [u8; MAX_WORDS],
+    columns: &mut [u16; MAX_WORDS],
+    ties: &mut [u8; MAX_WORDS],
+    distances: &mut [u16; MAX_WORDS],
+    count: usize,
+    s: &[u8],
+    from: usize,
+    tie: u8,
+    distance: u16,
+) -> Taken
+    requires { ⌜ from + length (now s) < 2 ^ 63 ⌝ }
+    ensures { λ r. ⌜ Takes (wordsOf (now (text .entry)) (now (ends .entry)) (now (marks .entry)) (now (columns .entry)) (now (ties .entry)) (now (distances .entry)) count) from tie distance (operandIn (quoteNext (now (s .entry)))) r (wordsOf (now (text .exit)) (now (ends .exit)) (now (marks .exit)) (now (columns .exit)) (now (ties .exit)) (now (distances .exit)) (r .count)) ⌝ }
+{
+    let close = stretch(Class::Inner, s);
+    if s.len() <= close {
+        return nothing(count);
+    }
+    let inner = &s[..close];
+    if !has_word(inner) {
+        return nothing(count);
+    }
+    phrase(
+        text,
+        ends,
+        marks,
+        columns,
+        ties,
+        distances,
+        count,
+        inner,
+        ANY_COLUMN,
+        tie,
+        distance,
+        from + (close + 2),
+    )
+}
+
+// Reads a run that is a word with a column's name and `:` in front.
+fn in_column(
+    names: &[u8],
+    name_ends: &[u32],
+    text: &mut [u8; MAX_QUERY],
+    ends: &mut [u16; MAX_WORDS],
+    marks: &mut [u8; MAX_WORDS],
+    columns: &mut [u16; MAX_WORDS],
+    ties: &mut [u8; MAX_WORDS],
+    distances: &mut [u16; MAX_WORDS],
+    count: usize,
+    s: &[u8],
+    from: usize,
+    tie: u8,
+    distance: u16,
+) -> Taken
+    requires { ⌜ from + length (now s) < 2 ^ 63 ⌝ }
+    ensures { λ r. ⌜ Takes (wordsOf (now (text .entry)) (now (ends .entry)) (now (marks .entry)) (now (columns .entry)) (now (ties .entry)) (now (distances .entry)) count) from tie distance (operandIn (columnRun (cut (now (names .entry)) (now («name_ends» .entry))) (now (s .entry)))) r (wordsOf (now (text .exit)) (now (ends .exit)) (now (marks .exit)) (now (columns .exit)) (now (ties .exit)) (now (distances .exit)) (r .count)) ⌝ }
+{
+    let n = stretch(Class::Name, s);
+    if n == 0 {
+        return nothing(count);
+    }
+    if s.len() <= n {
+        return nothing(count);
+    }
+    if s[n] != b':' {
+        return nothing(count);
+    }
+    let word = &s[n + 1..];
+    if !is_stem(word) {
+        return nothing(count);
+    }
+    let column = offsets::column_of(names, name_ends, &s[..n]);
+    let offsets::Column::At(c) = column else {
+        return nothing(count);
+    };
+    if common::MAX_COLUMNS <= c {
+        return nothing(count);
+    }
+    phrase(
+        text,
+        ends,
+        marks,
+        columns,
+        ties,
+        distances,
+        count,
+        word,
+        only_column(c),
+        tie,
+        distance,
+        from + s.len(),
+    )
+}
+
+// Reads a run, which stands at the place `from`.
+fn in_run(
+    names: &[u8],
+    name_ends: &[u32],
+    text: &mut [u8; MAX_QUERY],
+    ends: &mut [u16; MAX_WORDS],
+    marks: &mut [u8; MAX_WORDS],
+    columns: &mut [u16; MAX_WORDS],
+    ties: &mut [u8; MAX_WORDS],
+    distances: &mut [u16; MAX_WORDS],
+    count: usize,
+    s: &[u8],
+    from: usize,
+    tie: u8,
+    distance: u16,
+) -> Taken
+    requires { ⌜ from + length (now s) < 2 ^ 63 ⌝ }
+    ensures { λ r. ⌜ Takes (wordsOf (now (text .entry)) (now (ends .entry)) (now (marks .entry)) (now (columns .entry)) (now (ties .entry)) (now (distances .entry)) count) from tie distance (operandIn (runNext (cut (now (names .entry)) (now («name_ends» .entry))) (now (s .entry)))) r (wordsOf (now (text .exit)) (now (ends .exit)) (now (marks .exit)) (now (columns .exit)) (now (ties .exit)) (now (distances .exit)) (r .count)) ⌝ }
 {
     let o = operator_of(s);
     if o.kind != OPERAND {
-        return with_kind(st, o.kind, o.tie, o.distance, s.len());
+        return nothing(count);
     }
     if is_stem(s) {
-        return with_phrase(st, s, ANY_COLUMN, s.len());
+        return phrase(
+            text,
+            ends,
+            marks,
+            columns,
+            ties,
+            distances,
+            count,
+            s,
+            ANY_COLUMN,
+            tie,
+            distance,
+            from + s.len(),
+        );
     }
-    column_step(names, ends, st, s)
+    in_column(
+        names,
+        name_ends,
+        text,
+        ends,
+        marks,
+        columns,
+        ties,
+        distances,
+        count,
+        s,
+        from,
+        tie,
+        distance,
+    )
 }
 
-// The state after what stands next.
-fn step(names: &[u8], ends: &[u32], st: State, s: &[u8]) -> State
-    requires { ⌜ (length (now s) ≤ maxQuery) × (st .at < length (now s)) × (st .count < maxQuery) ⌝ }
-    ensures { λ r. ⌜ r ≡ movedOn st (nextToken (cut (now (names .entry)) (now (ends .entry))) (drop (st .at) (now (s .entry)))) ⌝ }
+// Reads the word or phrase that comes next in a query from the place `at` on, where the table's column names are `names`
+// cut by `name_ends`. Its words are put into the lent arrays after the `count` that are there; the first is tied as told.
+pub fn take_operand(
+    names: &[u8],
+    name_ends: &[u32],
+    text: &mut [u8; MAX_QUERY],
+    ends: &mut [u16; MAX_WORDS],
+    marks: &mut [u8; MAX_WORDS],
+    columns: &mut [u16; MAX_WORDS],
+    ties: &mut [u8; MAX_WORDS],
+    distances: &mut [u16; MAX_WORDS],
+    count: usize,
+    s: &[u8],
+    at: usize,
+    tie: u8,
+    distance: u16,
+) -> Taken
+    ensures reader { λ r. ⌜ Takes (wordsOf (now (text .entry)) (now (ends .entry)) (now (marks .entry)) (now (columns .entry)) (now (ties .entry)) (now (distances .entry)) count) (afterSpace (now (s .entry)) at) tie distance (operandIn (nextToken (cut (now (names .entry)) (now («name_ends» .entry))) (drop (afterSpace (now (s .entry)) at) (now (s .entry))))) r (wordsOf (now (text .exit)) (now (ends .exit)) (now (marks .exit)) (now (columns .exit)) (now (ties .exit)) (now (distances .exit)) (r .count)) ⌝ }
+    ensures meaning { λ r. ⌜ TakesAt (cut (now (names .entry)) (now («name_ends» .entry))) (now (s .entry)) at (wordsOf (now (text .entry)) (now (ends .entry)) (now (marks .entry)) (now (columns .entry)) (now (ties .entry)) (now (distances .entry)) count) tie distance r (wordsOf (now (text .exit)) (now (ends .exit)) (now (marks .exit)) (now (columns .exit)) (now (ties .exit)) (now (distances .exit)) (r .count)) ⌝ }
 {
-    let at = st.at;
-    let b = s[at];
-    if is_space(b) {
-        return skip(st);
+    let from = skip(s, at);
+    if s.len() <= from {
+        return nothing(count);
     }
+    let b = s[from];
     if b == b'(' {
-        return with_kind(st, LPAREN, BEGINS, 0, 1);
+        return nothing(count);
     }
     if b == b')' {
-        return with_kind(st, RPAREN, BEGINS, 0, 1);
+        return nothing(count);
     }
     if b == b'"' {
-        return quote_step(st, &s[at + 1..]);
+        return quoted(
+            text,
+            ends,
+            marks,
+            columns,
+            ties,
+            distances,
+            count,
+            &s[from + 1..],
+            from,
+            tie,
+            distance,
+        );
     }
-    let rest = &s[at..];
+    let rest = &s[from..];
     let n = stretch(Class::Run, rest);
-    run_step(names, ends, st, &rest[..n])
-}
-
-// The state in front of all tokens.
-fn start() -> State
-    ensures { λ r. ⌜ r ≡ started ⌝ }
-{
-    let words = no_words();
-    State {
-        ok: true,
-        at: 0,
-        kinds: [0; MAX_QUERY],
-        count: 0,
-        words: words,
-        tie: BEGINS,
-        distance: 0,
-    }
-}
-
-// The answer for bytes that are no query.
-fn refused() -> Lexed
-    ensures { λ r. ⌜ r ≡ refusedLex ⌝ }
-{
-    let words = no_words();
-    Lexed {
-        ok: false,
-        kinds: [0; MAX_QUERY],
-        count: 0,
-        words: words,
-    }
-}
-
-// The tokens of a query, for a table whose column names are `names` cut by `ends`.
-pub fn lex(names: &[u8], ends: &[u32], s: &[u8]) -> Lexed
-    ensures reader { λ r. ⌜ r ≡ lexedOf (cut (now (names .entry)) (now (ends .entry))) (now (s .entry)) ⌝ }
-    ensures meaning { λ r. ⌜ Lexes (cut (now (names .entry)) (now (ends .entry))) (now (s .entry)) r ⌝ }
-{
-    if MAX_QUERY < s.len() {
-        return refused();
-    }
-    let mut st = start();
-    while st.at < s.len() {
-        st = step(names, ends, st, s);
-        if !st.ok {
-            return refused();
-        }
-    }
-    let words = st.words;
-    if MAX_WORDS < words.count {
-        return refused();
-    }
-    let kinds = st.kinds;
-    Lexed {
-        ok: true,
-        kinds: kinds,
-        count: st.count,
-        words: words,
-    }
+    in_run(
+        names,
+        name_ends,
+        text,
+        ends,
+        marks,
+        columns,
+        ties,
+        distances,
+        count,
+        &rest[..n],
+        from,
+        tie,
+        distance,
+    )
 }

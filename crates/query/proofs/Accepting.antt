@@ -1,23 +1,24 @@
 -- The answer is accepted exactly for a query, and there is one tree: the laws of `read`.
-use Prim.Native.Nat.{ℕ}
+use Prim.Native.Nat.{ℕ, _≤_}
 use native.Mathlib.Omega.{arith}
 use mathlib.Core.Path.{_≡_, refl, sym, ap, subst, _∙_}
 use mathlib.Core.Bool.{true, false}
 use mathlib.Core.List.{List}
 use lib.ListN.{length}
 use lib.Dec.{leb}
-use Rattle.common.proofs.Cases.{bool-case, true-not-false}
-use Rattle.lexer.specs.declared.Lexed.{Lexed}
+use borrow.Author.Tests.{leb-true, le-leb}
+use Rattle.common.proofs.Cases.{pick-case, true-not-false}
 use Rattle.lexer.specs.Token.{Token, maxQuery}
 use Rattle.lexer.specs.Tokens.{Tokens}
-use Rattle.lexer.specs.Lexing.{QueryTokens, Lexing, tokens, lexOf, isWithin, lexedOf, Lexes}
+use Rattle.lexer.specs.Lexing.{Within, QueryTokens, Lexing, tokens, lexOf, isWithin}
 use Rattle.lexer.specs.Lexing as lexing
 use Rattle.lexer.proofs.TokenLaws.{tokens-law, tokens-unique}
+use Rattle.lexer.proofs.TokenNodes.{within-law}
 use Rattle.query.specs.declared.Reading.{Reading}
 use Rattle.query.specs.Tree.{OR, Tree}
 use Rattle.query.specs.Grammar.{level, maxDepth, Derives, Reads}
 use Rattle.query.specs.Parsing.{Parsed, found, refused, treeOf}
-use Rattle.query.specs.Reading.{refusedReading, reading, readingOf, tokensRead, readOf, Compiles, TokensOf}
+use Rattle.query.specs.Reading.{refusedReading, reading, readingOf, tokensRead, readOf, Compiles}
 use Rattle.query.proofs.Sound.{tree-sound}
 use Rattle.query.proofs.Complete.{tree-complete, tree-unique}
 
@@ -76,46 +77,24 @@ module _ (names : List (List ℕ)) (s : List ℕ) where
 
   -- ---- computed
 
-  within-computed : (ts : List Token) → lexing.answer (tokens ts) .ok ≡ true → tokensRead (tokens ts) ≡ readingOf (treeOf ts)
-  within-computed ts k = bool-case (isWithin ts) (λ h. rw h) (λ h. true-not-false false (rw h at k) refl)
+  pub read-compiles : Compiles names s (readOf names s)
+  read-compiles =
+      pick-case (Compiles names s) (leb (length s) maxQuery) (tokensRead (lexOf names s)) refusedReading
+      (λ b. go (leb-true (length s) maxQuery b) (lexOf names s) refl)
+      (λ b. others-refused (λ ts q. true-not-false (leb (length s) maxQuery) (le-leb (length s) maxQuery (q .size)) b))
+    where
+      go : length s ≤ maxQuery → (x : Lexing) → lexOf names s ≡ x → Compiles names s (tokensRead x)
+      go size (tokens ts) e =
+          pick-case (Compiles names s) (isWithin ts) (readingOf (treeOf ts)) refusedReading
+          (λ w. tokens-compile ts (record { reads = tokens-law names s ts .1 e; size = size; words = within-law ts .0 w }))
+          (λ w. others-refused (λ us q.
+          let h = tokens-unique names s us ts (q .reads) (tokens-law names s ts .1 e) in
+          true-not-false (isWithin ts) (within-law ts .1 (subst Within h (q .words))) w))
+      go size lexing.refused e =
+          others-refused (λ us q.
+          let h = sym e ∙ tokens-law names s us .0 (q .reads) in
+          let z : _≡_ {A = ℕ} 0 1 = cc in omega arith)
 
-  pub accepted-computed : (ts : List Token) → Tokens names s ts → lexedOf names s .ok ≡ true → readOf names s ≡ readingOf (treeOf ts)
-  accepted-computed ts h k =
-      let e : lexOf names s ≡ tokens ts = tokens-law names s ts .0 h in
-      bool-case (leb (length s) maxQuery)
-      (λ b. rw b (ap tokensRead e ∙ within-computed ts (ap (λ (x : Lexing). lexing.answer x .ok) (sym e) ∙ rw b at k)))
-      (λ b. true-not-false false (rw b at k) refl)
-
-  others-computed : (x : Lexing) → lexing.answer x .ok ≡ false → tokensRead x ≡ refusedReading
-  others-computed (tokens ts) k = bool-case (isWithin ts) (λ h. true-not-false true refl (rw h at k)) (λ h. rw h)
-  others-computed lexing.refused k = refl
-
-  pub refused-computed : lexedOf names s .ok ≡ false → readOf names s ≡ refusedReading
-  refused-computed k =
-      bool-case (leb (length s) maxQuery)
-      (λ b. rw b (others-computed (lexOf names s) (rw b at k)))
-      (λ b. rw b)
-
-  -- ---- from the lexer's answer
-
-  module _ (l : Lexed) (reader : l ≡ lexedOf names s) (meaning : Lexes names s l) where
-    pub lexer-refuses : l .ok ≡ false → (refusedReading ≡ readOf names s) × Compiles names s refusedReading
-    lexer-refuses k = (
-      sym (refused-computed (ap (λ (x : Lexed). x .ok) (sym reader) ∙ k)),
-      others-refused (λ ts q. true-not-false (l .ok) (meaning .accepted .1 (ts, q)) k),
-    )
-
-    tokens-of : (ts : List Token) → QueryTokens names s ts → TokensOf l ts
-    tokens-of ts q = record { names = names; text = s; split = q; content = meaning .content ts q }
-
-    module _ (k : l .ok ≡ true) where
-      pub lexer-accepts : (ts : List Token) × TokensOf l ts
-      lexer-accepts = let w = meaning .accepted .0 k in (w .0, tokens-of (w .0) (w .1))
-
-      pub tokens-read : (r : Reading) → ((ts : List Token) → TokensOf l ts → r ≡ readingOf (treeOf ts)) → (r ≡ readOf names s) × Compiles names s r
-      tokens-read r h =
-          let w = meaning .accepted .0 k in
-          let e = h (w .0) (tokens-of (w .0) (w .1)) in (
-            e ∙ sym (accepted-computed (w .0) (w .1 .reads) (ap (λ (x : Lexed). x .ok) (sym reader) ∙ k)),
-            subst (Compiles names s) (sym e) (tokens-compile (w .0) (w .1)),
-          )
+  -- both sides of the promise
+  pub read-answers : (r : Reading) → r ≡ readOf names s → (r ≡ readOf names s) × Compiles names s r
+  read-answers r e = (e, subst (Compiles names s) (sym e) read-compiles)

@@ -6,11 +6,11 @@ use mathlib.Core.Bool.{true, false}
 use mathlib.Core.List.{List, [], _∷_, _++_, append-assoc, append-nil}
 use lib.ListN.{length, length-append}
 use Rattle.common.proofs.Cases.{false-not-true}
-use Rattle.lexer.specs.Token.{Token, lparen, rparen, NEAR, operand}
+use Rattle.lexer.specs.Token.{Token, lparen, rparen, NEAR, operand, nearKind, frontKind}
 use Rattle.lexer.specs.Token as token
 use Rattle.query.specs.Tree.{Op, OR, AND, NOT, Link, Chain, Tree, leaf, joined}
 use Rattle.query.specs.Grammar.{maxDepth, Level, near, level, tighter, linkTokens, chainTokens, Derives, chain, parens, single, or, and, beside, not}
-use Rattle.query.specs.Parsing.{found, parsedThen, nearKind, frontKind, opens, goesOn, rightSide, extended, linksOf, parse, goOn, rank, fuel, treeOf}
+use Rattle.query.specs.Parsing.{found, parsedThen, opens, goesOn, rightSide, extended, linksOf, parse, goOn, rank, fuel, treeOf}
 use Rattle.query.proofs.Front.{no-link}
 use Rattle.query.proofs.Sound.{found-tree}
 
@@ -27,7 +27,7 @@ derived-opens (beside {l = l} {r = r} i j) us = rw (append-assoc l r us) (derive
 derived-opens (not {l = l} {r = r} i j) us = rw (append-assoc l (token.NOT ∷ r) us) (derived-opens i (token.NOT ∷ (r ++ us)))
 
 -- there is at least one
-derived-some : {d : ℕ} {k : Level} {l : List Token} {t : Tree} → Derives d k l t → 1 ≤ length l
+pub derived-some : {d : ℕ} {k : Level} {l : List Token} {t : Tree} → Derives d k l t → 1 ≤ length l
 derived-some (chain c) = omega arith
 derived-some (parens i) = omega arith
 derived-some (single i) = derived-some i

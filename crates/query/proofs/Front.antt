@@ -3,10 +3,9 @@ use Prim.Native.Nat.{ℕ, zero, suc, _<_}
 use native.Mathlib.Omega.{arith}
 use mathlib.Core.Path.{_≡_, refl, ap}
 use mathlib.Core.List.{List, [], _∷_}
-use Rattle.lexer.specs.Token.{Token, lparen, rparen, NEAR, operand, Phrase, Distance}
+use Rattle.lexer.specs.Token.{Token, lparen, rparen, NEAR, operand, Phrase, Distance, nearKind, operandKind, frontKind, afterFront}
 use Rattle.lexer.specs.Token as token
-use Rattle.lexer.specs.Filling.{operandKind}
-use Rattle.query.specs.Parsing.{found, refused, nearKind, frontKind, afterFront, linksOf, chainOf}
+use Rattle.query.specs.Parsing.{found, refused, linksOf, chainOf}
 use Rattle.query.specs.Tree.{Chain, leaf}
 
 -- the token of a kind that carries nothing

@@ -7,6 +7,7 @@ pub mod Bounds
 pub mod Places
 pub mod Codes
 pub mod Steps
+pub mod Operands
 pub mod Whole
 pub mod Accepting
 pub mod Examples

@@ -1,51 +1,33 @@
--- A place in the row of kinds and the tokens from there on.
-use Prim.Native.Nat.{ℕ, _+_, _-_, _≤_, _<_}
-use native.Mathlib.Nat.{add-zero}
+-- A place in a query's bytes and the tokens from there on: what comes next there tells where the right side of an operator begins.
+use Prim.Native.Nat.{ℕ, _≤_, _<_}
 use native.Mathlib.Omega.{arith}
-use mathlib.Core.Path.{_≡_, refl, sym, ap, _∙_}
+use mathlib.Core.Path.{_≡_, refl, ap, _∙_}
 use mathlib.Core.Bool.{Bool, true, false}
 use mathlib.Core.List.{List, [], _∷_}
 use mathlib.Core.Logic.{_⊎_, inl, inr, ⊎-elim}
-use lib.ListN.{length, getD, drop, length-drop, length-map}
-use lib.Seq.{getD-drop, drop-drop}
+use lib.ListN.{length, drop}
 use lib.Dec.{eqb}
 use borrow.Author.Tests.{eqb-true, eq-eqb, ne-eqb}
 use Rattle.common.specs.Pick.{pick, both, either}
-use Rattle.common.proofs.Lists.{getD-place}
-use Rattle.lexer.specs.Token.{Token, lparen, kindOf}
-use Rattle.lexer.specs.Lexing.{kindsOf}
-use Rattle.lexer.specs.Filling.{operandKind}
+use Rattle.lexer.specs.Token.{Token, lparen, kindOf, operandKind, frontKind, afterFront}
+use Rattle.lexer.specs.Lexing.{tokens, lexOf}
+use Rattle.lexer.specs.Looking.{lookAt}
+use Rattle.lexer.specs.declared.Ahead.{Ahead}
+use Rattle.lexer.proofs.Places.{restOf, look-front, look-moves, look-rest}
 use Rattle.query.specs.declared.Right.{Right}
 use Rattle.query.specs.declared.Right.the-variants.{At, Nothing}
 use Rattle.query.specs.Tree.{Op, OR, AND, NOT}
-use Rattle.query.specs.Parsing.{endKind, frontKind, afterFront, opKind, opens, unwritten, goesOn, rightSide}
-use Rattle.query.specs.Kinds.{rightAt, TokensAt}
+use Rattle.query.specs.Parsing.{opKind, opens, unwritten, goesOn, rightSide}
+use Rattle.query.specs.Levels.{rightAt, TokensAt, BrokenAt}
 
--- ---- the tokens from a place on
+-- ---- after a parenthesis or an operator
 
-first-kind : (ts : List Token) → getD (kindsOf ts) 0 endKind ≡ frontKind ts
-first-kind [] = refl
-first-kind (t ∷ ts) = refl
+module _ (names : List (List ℕ)) (s : List ℕ) (at : ℕ) (k : lookAt s at .kind < operandKind) where
+  pub tokens-after : (ts : List Token) → TokensAt names s at ts → TokensAt names s (lookAt s at .next) (afterFront ts)
+  tokens-after ts h = look-rest names s at k ∙ ap restOf h
 
-drop-kinds : (ts : List Token) → drop 1 (kindsOf ts) ≡ kindsOf (afterFront ts)
-drop-kinds [] = refl
-drop-kinds (t ∷ ts) = refl
-
-module _ (kinds : List ℕ) (at : ℕ) (ts : List Token) (h : TokensAt kinds at ts) where
-  pub shows-front : getD kinds at endKind ≡ frontKind ts
-  shows-front =
-      ap (λ n. getD kinds n endKind) (sym (add-zero at)) ∙ sym (getD-drop at kinds 0 endKind)
-      ∙ ap (λ ks. getD ks 0 endKind) h ∙ first-kind ts
-
-  pub shows-behind : TokensAt kinds (at + 1) (afterFront ts)
-  shows-behind = sym (drop-drop 1 at kinds) ∙ ap (drop 1) h ∙ drop-kinds ts
-
-  pub shows-length : length ts ≡ length kinds - at
-  shows-length = sym (length-map ts kindOf) ∙ sym (ap length h) ∙ length-drop at kinds
-
--- a token stands there
-pub kind-inside : (kinds : List ℕ) (at k : ℕ) → getD kinds at endKind ≡ k → k < endKind → at < length kinds
-kind-inside kinds at k e l = getD-place kinds at endKind (λ h. omega arith)
+  pub broken-after : BrokenAt names s at → BrokenAt names s (lookAt s at .next)
+  broken-after h = look-rest names s at k ∙ ap restOf h
 
 -- ---- the right side of an operator
 
@@ -54,64 +36,88 @@ by-op OR k = refl
 by-op AND k = refl
 by-op NOT k = refl
 
-kind-below : (o : Op) → opKind o < endKind
-kind-below OR = omega arith
-kind-below AND = omega arith
-kind-below NOT = omega arith
+op-below : (o : Op) → opKind o < operandKind
+op-below OR = omega arith
+op-below AND = omega arith
+op-below NOT = omega arith
 
-chosen : (b u : Bool) (at n : ℕ) → pick b (At (at + 1)) (pick u (At at) Nothing) ≡ At n
-    → ((b ≡ true) × (n ≡ at + 1)) ⊎ ((b ≡ false) × (u ≡ true) × (n ≡ at))
-chosen true u at n e = inl (refl, cc)
-chosen false true at n e = inr (refl, refl, cc)
-chosen false false at n e = let z : _≡_ {A = ℕ} 0 1 = cc in absurd (omega arith)
+chosen : (b u : Bool) (next at n : ℕ) → pick b (At next) (pick u (At at) Nothing) ≡ At n
+    → ((b ≡ true) × (n ≡ next)) ⊎ ((b ≡ false) × (u ≡ true) × (n ≡ at))
+chosen true u next at n e = inl (refl, cc)
+chosen false true next at n e = inr (refl, refl, cc)
+chosen false false next at n e = let z : _≡_ {A = ℕ} 0 1 = cc in absurd (omega arith)
 
-none-chosen : (b u : Bool) (at : ℕ) → pick b (At (at + 1)) (pick u (At at) Nothing) ≡ Nothing → either b u ≡ false
-none-chosen true u at e = let z : _≡_ {A = ℕ} 0 1 = cc in absurd (omega arith)
-none-chosen false true at e = let z : _≡_ {A = ℕ} 0 1 = cc in absurd (omega arith)
-none-chosen false false at e = refl
+none-chosen : (b u : Bool) (next at : ℕ) → pick b (At next) (pick u (At at) Nothing) ≡ Nothing → either b u ≡ false
+none-chosen true u next at e = let z : _≡_ {A = ℕ} 0 1 = cc in absurd (omega arith)
+none-chosen false true next at e = let z : _≡_ {A = ℕ} 0 1 = cc in absurd (omega arith)
+none-chosen false false next at e = refl
 
-module _ (kinds : List ℕ) (at : ℕ) (o : Op) where
-  abbrev kind : ℕ
-  kind = getD kinds at endKind
+module _ (names : List (List ℕ)) (s : List ℕ) (at : ℕ) (o : Op) where
+  abbrev here : Ahead
+  here = lookAt s at
 
-  right-by : (r : Right) → rightAt (opKind o) kind at ≡ r → pick (eqb kind (opKind o)) (At (at + 1)) (pick (unwritten o kind) (At at) Nothing) ≡ r
+  right-by : (r : Right) → rightAt (opKind o) here at ≡ r → pick (eqb (here .kind) (opKind o)) (At (here .next)) (pick (unwritten o (here .kind)) (At at) Nothing) ≡ r
   right-by r e = rw by-op at e
 
-  -- it stands in the row
-  pub right-place : (n : ℕ) → at ≤ length kinds → rightAt (opKind o) kind at ≡ At n → (at ≤ n) × (n ≤ length kinds)
-  right-place n l e =
-      ⊎-elim
-      (λ w. let i = kind-inside kinds at (opKind o) (eqb-true kind (opKind o) (w .0)) (kind-below o) in let z = w .1 in omega arith)
-      (λ w. let z = w .2 in omega arith)
-      (chosen (eqb kind (opKind o)) (unwritten o kind) at n (right-by (At n) e))
+  -- the operator is written
+  written : eqb (here .kind) (opKind o) ≡ true → here .kind < operandKind
+  written h = omega (arith, eqb-true (here .kind) (opKind o) h, op-below o)
 
-  -- and the operator goes on there
-  pub right-goes-on : (ts : List Token) (n : ℕ) → TokensAt kinds at ts → rightAt (opKind o) kind at ≡ At n → (goesOn o ts ≡ true) × TokensAt kinds n (rightSide o ts)
-  right-goes-on ts n h e =
-      ⊎-elim
-      (λ w. rw (← shows-front kinds at ts h, w .0, w .1) (refl, shows-behind kinds at ts h))
-      (λ w. rw (← shows-front kinds at ts h, w .0, w .1, w .2) (refl, h))
-      (chosen (eqb kind (opKind o)) (unwritten o kind) at n (right-by (At n) e))
+  module _ (n : ℕ) (e : rightAt (opKind o) here at ≡ At n) where
+    cases : ((eqb (here .kind) (opKind o) ≡ true) × (n ≡ here .next)) ⊎ ((eqb (here .kind) (opKind o) ≡ false) × (unwritten o (here .kind) ≡ true) × (n ≡ at))
+    cases = chosen (eqb (here .kind) (opKind o)) (unwritten o (here .kind)) (here .next) at n (right-by (At n) e)
 
-  pub right-stops : (ts : List Token) → TokensAt kinds at ts → rightAt (opKind o) kind at ≡ Nothing → goesOn o ts ≡ false
-  right-stops ts h e = rw (← shows-front kinds at ts h) (none-chosen (eqb kind (opKind o)) (unwritten o kind) at (right-by Nothing e))
+    -- it lies in the bytes
+    pub right-place : at ≤ length s → (at ≤ n) × (n ≤ length s)
+    right-place l =
+        ⊎-elim
+        (λ w. let m = look-moves names s at (written (w .0)) in (omega (arith, w .1, m .0), omega (arith, w .1, m .1)))
+        (λ w. (omega (arith, w .2), omega (arith, w .2)))
+        cases
+
+    -- and the operator goes on there
+    pub right-goes-on : (ts : List Token) → TokensAt names s at ts → (goesOn o ts ≡ true) × TokensAt names s n (rightSide o ts)
+    right-goes-on ts h =
+        ⊎-elim
+        (λ w. rw (← look-front names s at ts h, w .0, w .1) (refl, tokens-after names s at (written (w .0)) ts h))
+        (λ w. rw (← look-front names s at ts h, w .0, w .1, w .2) (refl, h))
+        cases
+
+    pub right-broken : BrokenAt names s at → BrokenAt names s n
+    right-broken h =
+        ⊎-elim
+        (λ w. ap (λ m. lexOf names (drop m s)) (w .1) ∙ broken-after names s at (written (w .0)) h)
+        (λ w. ap (λ m. lexOf names (drop m s)) (w .2) ∙ h)
+        cases
+
+  pub right-stops : (ts : List Token) → TokensAt names s at ts → rightAt (opKind o) here at ≡ Nothing → goesOn o ts ≡ false
+  right-stops ts h e = rw (← look-front names s at ts h) (none-chosen (eqb (here .kind) (opKind o)) (unwritten o (here .kind)) (here .next) at (right-by Nothing e))
+
+-- the right side is no longer
+pub right-shorter : (o : Op) (ts : List Token) → length (rightSide o ts) ≤ length ts
+right-shorter o ts = go (eqb (frontKind ts) (opKind o)) ts
+  where
+    go : (b : Bool) (us : List Token) → length (pick b (afterFront us) us) ≤ length us
+    go true [] = omega arith
+    go true (u ∷ us) = omega arith
+    go false us = omega arith
 
 -- ---- how the code finds it
 
-module _ (operator k at : ℕ) where
-  pub right-written : k ≡ operator → At (at + 1) ≡ rightAt operator k at
-  right-written e = rw (eq-eqb k operator e)
+module _ (operator : ℕ) (a : Ahead) (at : ℕ) where
+  pub right-written : a .kind ≡ operator → At (a .next) ≡ rightAt operator a at
+  right-written e = rw (eq-eqb (a .kind) operator e)
 
-  module _ (n : k ≡ operator → ⊥) where
-    pub right-unwritten : (operator ≡ opKind AND → ⊥) → Nothing ≡ rightAt operator k at
-    right-unwritten m = rw (ne-eqb k operator n, ne-eqb operator (opKind AND) m)
+  module _ (n : a .kind ≡ operator → ⊥) where
+    pub right-unwritten : (operator ≡ opKind AND → ⊥) → Nothing ≡ rightAt operator a at
+    right-unwritten m = rw (ne-eqb (a .kind) operator n, ne-eqb operator (opKind AND) m)
 
     module _ (m : operator ≡ opKind AND) where
-      pub right-parens : k ≡ kindOf lparen → At at ≡ rightAt operator k at
-      right-parens e = rw (ne-eqb k operator n, eq-eqb operator (opKind AND) m, eq-eqb k (kindOf lparen) e)
+      pub right-parens : a .kind ≡ kindOf lparen → At at ≡ rightAt operator a at
+      right-parens e = rw (ne-eqb (a .kind) operator n, eq-eqb operator (opKind AND) m, eq-eqb (a .kind) (kindOf lparen) e)
 
-      pub right-operand : (k ≡ kindOf lparen → ⊥) → k ≡ operandKind → At at ≡ rightAt operator k at
-      right-operand l e = rw (ne-eqb k operator n, eq-eqb operator (opKind AND) m, ne-eqb k (kindOf lparen) l, eq-eqb k operandKind e)
+      pub right-operand : (a .kind ≡ kindOf lparen → ⊥) → a .kind ≡ operandKind → At at ≡ rightAt operator a at
+      right-operand l e = rw (ne-eqb (a .kind) operator n, eq-eqb operator (opKind AND) m, ne-eqb (a .kind) (kindOf lparen) l, eq-eqb (a .kind) operandKind e)
 
-      pub right-nothing : (k ≡ kindOf lparen → ⊥) → (k ≡ operandKind → ⊥) → Nothing ≡ rightAt operator k at
-      right-nothing l e = rw (ne-eqb k operator n, eq-eqb operator (opKind AND) m, ne-eqb k (kindOf lparen) l, ne-eqb k operandKind e)
+      pub right-nothing : (a .kind ≡ kindOf lparen → ⊥) → (a .kind ≡ operandKind → ⊥) → Nothing ≡ rightAt operator a at
+      right-nothing l e = rw (ne-eqb (a .kind) operator n, eq-eqb operator (opKind AND) m, ne-eqb (a .kind) (kindOf lparen) l, ne-eqb (a .kind) operandKind e)

@@ -7,11 +7,11 @@ use mathlib.Core.List.{List, [], _∷_, _++_, append-assoc, append-nil}
 use lib.Dec.{eqb}
 use borrow.Author.Tests.{eqb-true}
 use Rattle.common.proofs.Cases.{either-none, bool-case, pick-case, pick-lazy-case}
-use Rattle.lexer.specs.Token.{Token, lparen, rparen, NEAR, operand, kindOf}
+use Rattle.lexer.specs.Token.{Token, lparen, rparen, NEAR, operand, kindOf, frontKind, afterFront}
 use Rattle.lexer.specs.Token as token
 use Rattle.query.specs.Tree.{Op, OR, AND, NOT, Link, Chain, Tree, leaf, joined}
 use Rattle.query.specs.Grammar.{maxDepth, Level, near, level, tighter, linkTokens, chainTokens, Derives, chain, parens, single, or, and, beside, not}
-use Rattle.query.specs.Parsing.{Parsed, found, refused, parsedThen, frontKind, afterFront, opKind, goesOn, rightSide, extended, linksOf, chainOf, closed, parse, goOn, whole, fuel, treeOf}
+use Rattle.query.specs.Parsing.{Parsed, found, refused, parsedThen, opKind, goesOn, rightSide, extended, linksOf, chainOf, closed, parse, goOn, whole, fuel, treeOf}
 use Rattle.query.proofs.Front.{front-plain}
 
 -- ---- results

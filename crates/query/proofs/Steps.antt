@@ -1,291 +1,212 @@
--- The steps of the parser's functions: each return mirrors the parser, and each loop keeps what it has read so far.
-use Prim.Native.Nat.{ℕ, zero, suc, _+_, _-_, _*_, _≤_, _<_}
-use native.Mathlib.Numerals.{sub-one}
+-- The steps of the reader's functions: each return mirrors the parser, and each loop keeps what it has read so far.
+use Prim.Native.Nat.{ℕ, zero, suc, _-_, _≤_, _<_}
 use native.Mathlib.Omega.{arith}
 use mathlib.Core.Path.{_≡_, refl, sym, ap, subst, _∙_}
 use mathlib.Core.Bool.{true, false}
-use mathlib.Core.List.{List, [], _∷_}
-use lib.ListN.{length, getD}
-use borrow.Author.Tests.{eq-eqb, ne-eqb}
-use Rattle.common.proofs.Cases.{true-not-false}
-use Rattle.lexer.specs.Token.{Token, lparen, rparen, NEAR, Distance, kindOf}
-use Rattle.lexer.specs.Filling.{operandKind}
+use mathlib.Core.List.{List}
+use lib.ListN.{length, drop, length-append}
+use Rattle.common.specs.Pick.{pick}
+use Rattle.common.proofs.Cases.{bool-case, pick-case, true-not-false}
+use Rattle.lexer.specs.Token.{Token}
+use Rattle.lexer.specs.Lexing.{lexOf}
+use Rattle.lexer.specs.Looking.{lookAt}
 use Rattle.query.specs.declared.Ops.{Ops}
+use Rattle.query.specs.declared.Query.{Query}
 use Rattle.query.specs.declared.Parse.{Parse}
 use Rattle.query.specs.declared.Right.the-variants.{At, Nothing}
-use Rattle.query.specs.Tree.{Op, OR, Chain, Tree, joined, chainCode, opCode, postfix}
-use Rattle.query.specs.Grammar.{near, level, tighter}
-use Rattle.query.specs.Parsing.{Parsed, found, refused, parsedThen, nearKind, endKind, frontKind, afterFront, opKind, rightSide, extended, linksOf, chainOf, closed, parse, goOn, fuel}
-use Rattle.query.specs.Kinds.{pushCode, pushCodes, rightAt, refusedParse, TokensAt, ParseIs, Moves, Chained, Mirrors}
-use Rattle.query.proofs.Front.{front-operand, front-near, no-operand, no-link, broken-link}
-use Rattle.query.proofs.Complete.{ranks}
-use Rattle.query.proofs.Places.{shows-front, shows-behind, shows-length, kind-inside, right-place, right-goes-on, right-stops}
-use Rattle.query.proofs.Codes.{push-joined}
+use Rattle.query.specs.Tree.{Op, Tree, joined, opCode}
+use Rattle.query.specs.Grammar.{Level, level, tighter}
+use Rattle.query.specs.Parsing.{Parsed, found, refused, parsedThen, opKind, rightSide, parse, goOn, fuel}
+use Rattle.query.specs.Levels.{pushCode, withTree, withCode, rightAt, TokensAt, BrokenAt, Onward, Moves, ParseIs, Mirrors}
+use Rattle.query.proofs.Sound.{sound}
+use Rattle.query.proofs.Complete.{ranks, derived-some}
+use Rattle.query.proofs.Places.{right-place, right-goes-on, right-broken, right-stops, right-shorter}
+use Rattle.query.proofs.Codes.{with-joined}
+
+-- what the parser finds takes a token
+parse-shorter : (f d : ℕ) (k : Level) (ts : List Token) (t : Tree) (us : List Token) → parse f d k ts ≡ found t us → length us < length ts
+parse-shorter f d k ts t us e =
+    let w = sound f d k ts t us e in
+    omega (arith, ap length (w .1), length-append (w .0) us, derived-some (w .2))
+
+-- the measure of a loop: what is left of the bytes, and nothing after a refusal
+abbrev pub left-over : List ℕ → Parse → ℕ
+left-over s left = pick (left .ok) (suc (length s - left .at)) 0
 
 -- ---- answers
 
-pub answers-found : (kinds : List ℕ) (ops : Ops) (x : Parsed) (r : Parse) → ParseIs kinds ops x r → r .ok ≡ true
-    → (t : Tree) × (us : List Token) × (x ≡ found t us) × TokensAt kinds (r .at) us × (r .ops ≡ pushCodes (postfix t) ops)
-answers-found kinds ops (found t us) r a h = (t, us, refl, a .1, a .2)
-answers-found kinds ops refused r a h = true-not-false (r .ok) h (ap (λ (x : Parse). x .ok) a)
+module _ (names : List (List ℕ)) (s : List ℕ) where
+  pub answers-found : (q : Query) (x : Parsed) (r : Parse) (after : Query) → ParseIs names s q x r after → r .ok ≡ true
+      → (t : Tree) × (us : List Token) × (x ≡ found t us) × TokensAt names s (r .at) us × (after ≡ withTree t q)
+  answers-found q (found t us) r after a h = (t, us, refl, a .1, a .2)
+  answers-found q refused r after a h = true-not-false (r .ok) h a
 
-pub answers-refused : (kinds : List ℕ) (ops : Ops) (x : Parsed) (r : Parse) → ParseIs kinds ops x r → r .ok ≡ false → (x ≡ refused) × (r ≡ refusedParse)
-answers-refused kinds ops (found t us) r a h = true-not-false (r .ok) (a .0) h
-answers-refused kinds ops refused r a h = (refl, a)
+  pub answers-refused : (q : Query) (x : Parsed) (r : Parse) (after : Query) → ParseIs names s q x r after → r .ok ≡ false → x ≡ refused
+  answers-refused q (found t us) r after a h = true-not-false (r .ok) (a .0) h
+  answers-refused q refused r after a h = refl
 
-never-moves : (kinds : List ℕ) (at : ℕ) → Moves kinds at refusedParse
-never-moves kinds at h = true-not-false false h refl
+  pub never-moves : (at : ℕ) (r : Parse) → r .ok ≡ false → Moves names s at r
+  never-moves at r h t = true-not-false (r .ok) t h
 
--- ---- an operator's level
+  pub onward-from : (at : ℕ) (r : Parse) → Onward names s at r → Onward names s (r .at) r
+  onward-from at r m = record { back = omega arith; inside = m .inside; looked = m .looked; broken = λ h. h }
 
--- `whole` is what the level makes of its tokens: it has come to the place `j` with a left side, whose codes are written
-abbrev Reached : List ℕ → ℕ → Op → Parsed → Ops → ℕ → Ops → Type 0
-Reached kinds d o whole ops j codes =
-    (l : Tree) × (ts : List Token) × (g : ℕ)
-    × TokensAt kinds j ts × (codes ≡ pushCodes (postfix l) ops) × (fuel (level o) ts ≤ g) × (whole ≡ goOn g d o l ts)
-
--- what a loop keeps that began at the place j₀
-abbrev pub Loop : List ℕ → ℕ → Op → ℕ → Ops → ℕ → Ops → Type 0
-Loop kinds d o j₀ codes₀ j codes = (whole : Parsed) (ops : Ops) → Reached kinds d o whole ops j₀ codes₀ → Reached kinds d o whole ops j codes
-
-pub loop-starts : (kinds : List ℕ) (d : ℕ) (o : Op) (j : ℕ) (codes : Ops) → Loop kinds d o j codes j codes
-loop-starts kinds d o j codes whole ops h = h
-
-module _ (kinds : List ℕ) (d : ℕ) (o : Op) (at : ℕ) (ops : Ops) (r : Parse) (a : Mirrors kinds d (tighter o) at ops r) where
-  -- there is no left side
-  pub left-fails : r .ok ≡ false → Mirrors kinds d (level o) at ops r
-  unfolding parse
-  left-fails h = record { answers = go; moves = λ t. true-not-false (r .ok) t h }
-    where
-      go : (ts : List Token) → TokensAt kinds at ts → (f : ℕ) → fuel (level o) ts ≤ f → ParseIs kinds ops (parse f d (level o) ts) r
-      go ts s zero le = absurd (omega (arith, ranks o))
-      go ts s (suc g) le =
-          let w = answers-refused kinds ops (parse g d (tighter o) ts) r (a .answers ts s g (omega (arith, ranks o))) h in
-          rw (w .0) (w .1)
-
-  -- there is one
-  left-found : r .ok ≡ true → (ts : List Token) → TokensAt kinds at ts → (f : ℕ) → fuel (level o) ts ≤ f
-      → Reached kinds d o (parse f d (level o) ts) ops (r .at) (r .ops)
-  unfolding parse
-  left-found h ts s zero le = absurd (omega (arith, ranks o))
-  left-found h ts s (suc g) le =
-      let b = answers-found kinds ops (parse g d (tighter o) ts) r (a .answers ts s g (omega (arith, ranks o))) h in
-      let m = a .moves h in
-      let y = shows-length kinds at ts s in
-      let z = shows-length kinds (r .at) (b .1) (b .3) in
-      (b .0, b .1, g, b .3, b .4, omega (arith, ranks o), ap (λ x. parsedThen x (λ t us. goOn g d o t us)) (b .2))
-
--- the operator goes on: its right side begins at the place `n`
-module _ (kinds : List ℕ) (d : ℕ) (o : Op) (j : ℕ) (codes : Ops) (n : ℕ) (inside : j ≤ length kinds)
-    (e : rightAt (opKind o) (getD kinds j endKind) j ≡ At n) (r : Parse) (a : Mirrors kinds d (tighter o) n codes r) where
-  -- what the right side is
-  right-answers : (ts : List Token) (g : ℕ) → TokensAt kinds j ts → fuel (level o) ts ≤ suc g → ParseIs kinds codes (parse g d (tighter o) (rightSide o ts)) r
-  right-answers ts g s le =
-      let w = right-goes-on kinds j o ts n s e in
-      let p = right-place kinds j o n inside e in
-      let x = shows-length kinds j ts s in
-      let y = shows-length kinds n (rightSide o ts) (w .1) in
-      a .answers (rightSide o ts) (w .1) g (omega (arith, ranks o))
-
-  turn : (l : Tree) (ts : List Token) (g : ℕ) (x : Parsed) → TokensAt kinds j ts → parse g d (tighter o) (rightSide o ts) ≡ x
-      → goOn (suc g) d o l ts ≡ parsedThen x (λ r us. goOn g d o (joined o l r) us)
-  unfolding parse
-  turn l ts g x s h = rw (right-goes-on kinds j o ts n s e .0) (ap (λ y. parsedThen y (λ r us. goOn g d o (joined o l r) us)) h)
-
-  right-found : r .ok ≡ true → (whole : Parsed) (ops : Ops) → Reached kinds d o whole ops j codes
-      → Reached kinds d o whole ops (r .at) (pushCode (r .ops) (opCode o))
-  right-found h whole ops (l, ts, zero, s, c, le, x) = absurd (omega (arith, ranks o))
-  right-found h whole ops (l, ts, suc g, s, c, le, x) =
-      let b = answers-found kinds codes (parse g d (tighter o) (rightSide o ts)) r (right-answers ts g s le) h in
-      let m = a .moves h in
-      let p = right-place kinds j o n inside e in
-      let y = shows-length kinds j ts s in
-      let z = shows-length kinds (r .at) (b .1) (b .3) in (
-        joined o l (b .0),
-        b .1,
-        g,
-        b .3,
-        ap (λ q. pushCode q (opCode o)) (b .4 ∙ ap (pushCodes (postfix (b .0))) c) ∙ push-joined o l (b .0) ops,
-        omega (arith, ranks o),
-        x ∙ turn l ts g (found (b .0) (b .1)) s (b .2),
-      )
-
-  pub loop-turns : r .ok ≡ true → (j₀ : ℕ) (codes₀ : Ops) → Loop kinds d o j₀ codes₀ j codes → Loop kinds d o j₀ codes₀ (r .at) (pushCode (r .ops) (opCode o))
-  loop-turns h j₀ codes₀ inv whole ops start = right-found h whole ops (inv whole ops start)
-
-  right-missing : r .ok ≡ false → (whole : Parsed) (ops : Ops) → Reached kinds d o whole ops j codes → ParseIs kinds ops whole r
-  right-missing h whole ops (l, ts, zero, s, c, le, x) = absurd (omega (arith, ranks o))
-  right-missing h whole ops (l, ts, suc g, s, c, le, x) =
-      let w = answers-refused kinds codes (parse g d (tighter o) (rightSide o ts)) r (right-answers ts g s le) h in
-      rw (x ∙ turn l ts g refused s (w .0)) (w .1)
-
-  pub right-fails : r .ok ≡ false → (at : ℕ) (ops : Ops) (left : Parse) → Mirrors kinds d (tighter o) at ops left → left .ok ≡ true
-      → Loop kinds d o (left .at) (left .ops) j codes → Mirrors kinds d (level o) at ops r
-  right-fails h at ops left b k inv =
+  pub onward-on : (at : ℕ) (r : Parse) (n : ℕ) (t : Parse) → Onward names s at r → r .at ≤ n → (BrokenAt names s (r .at) → BrokenAt names s n) → Onward names s n t → Onward names s at t
+  onward-on at r n t a le b m =
       record {
-        answers = λ ts s f le. right-missing h (parse f d (level o) ts) ops (inv (parse f d (level o) ts) ops (left-found kinds d o at ops left b k ts s f le));
-        moves = λ t. true-not-false (r .ok) t h;
+        back = omega (arith, a .back, m .back);
+        inside = m .inside;
+        looked = m .looked;
+        broken = λ h. m .broken (b (a .broken h));
       }
 
--- the operator stops
-module _ (kinds : List ℕ) (d : ℕ) (o : Op) (at : ℕ) (ops : Ops) (left : Parse) (a : Mirrors kinds d (tighter o) at ops left) (h : left .ok ≡ true)
-    (j : ℕ) (codes : Ops) (e : rightAt (opKind o) (getD kinds j endKind) j ≡ Nothing) where
-  abbrev Done : Parse
-  Done = record { ok = true; at = j; ops = codes }
+  -- ---- an operator's level
 
-  stopped : (whole : Parsed) → Reached kinds d o whole ops j codes → ParseIs kinds ops whole Done
-  unfolding parse
-  stopped whole (l, ts, zero, s, c, le, x) = absurd (omega (arith, ranks o))
-  stopped whole (l, ts, suc g, s, c, le, x) =
-      let y : goOn (suc g) d o l ts ≡ found l ts = rw (right-stops kinds j o ts s e) in
-      rw (x ∙ y) (refl, s, c)
+  module _ (d : ℕ) (o : Op) where
+    -- `whole` is what the level makes of its tokens: it has come to the place `j` with a left side, which is in the query `q'`
+    abbrev Reached : Parsed → Query → ℕ → Query → Type 0
+    Reached whole q j q' =
+        (l : Tree) × (ts : List Token) × (g : ℕ)
+        × TokensAt names s j ts × (q' ≡ withTree l q) × (fuel (level o) ts ≤ g) × (whole ≡ goOn g d o l ts)
 
-  pub loop-ends : (left .at ≤ j) × (j ≤ length kinds) → Loop kinds d o (left .at) (left .ops) j codes → Mirrors kinds d (level o) at ops Done
-  loop-ends le inv =
-      record {
-        answers = λ ts s f fe. stopped (parse f d (level o) ts) (inv (parse f d (level o) ts) ops (left-found kinds d o at ops left a h ts s f fe));
-        moves = λ _. let m = a .moves h in omega arith;
-      }
+    -- what a loop keeps that began with the answer `first`
+    pub record Going (first : Parse) (q₀ : Query) (left : Parse) (q' : Query) : Type 0 where
+      pub started : left .ok ≡ true → first .ok ≡ true
+      pub onward : left .ok ≡ true → Onward names s (first .at) left
+      pub reached : left .ok ≡ true → (whole : Parsed) (q : Query) → Reached whole q (first .at) q₀ → Reached whole q (left .at) q'
+      pub failed : left .ok ≡ false → first .ok ≡ true → (whole : Parsed) (q : Query) → Reached whole q (first .at) q₀ → whole ≡ refused
 
--- ---- operands
-
-no-parens : (d : ℕ) (ts : List Token) (g : ℕ) → (frontKind ts ≡ kindOf lparen → ⊥) → parse (suc g) d near ts ≡ chainOf ts
-unfolding parse
-no-parens zero ts g h = rw (ne-eqb (frontKind ts) (kindOf lparen) h)
-no-parens (suc d) ts g h = rw (ne-eqb (frontKind ts) (kindOf lparen) h)
-
-too-deep : (d : ℕ) (ts : List Token) (g : ℕ) → d ≡ 0 → frontKind ts ≡ kindOf lparen → parse (suc g) d near ts ≡ refused
-unfolding parse
-too-deep zero ts g e h = rw (eq-eqb (frontKind ts) (kindOf lparen) h)
-too-deep (suc d) ts g e h = absurd (omega arith)
-
-in-parens : (d : ℕ) (ts : List Token) (g : ℕ) → (d ≡ 0 → ⊥) → frontKind ts ≡ kindOf lparen
-    → parse (suc g) d near ts ≡ parsedThen (parse g (d - 1) (level OR) (afterFront ts)) closed
-unfolding parse
-in-parens zero ts g e h = absurd (e refl)
-in-parens (suc d) ts g e h = rw (eq-eqb (frontKind ts) (kindOf lparen) h, sub-one)
-
-module _ (kinds : List ℕ) (d at : ℕ) (ops : Ops) where
-  -- what one unit of fuel gives
-  with-fuel : (r : Parse) → ((ts : List Token) → TokensAt kinds at ts → (g : ℕ) → length ts * 4 ≤ g → ParseIs kinds ops (parse (suc g) d near ts) r)
-      → (ts : List Token) → TokensAt kinds at ts → (f : ℕ) → fuel near ts ≤ f → ParseIs kinds ops (parse f d near ts) r
-  with-fuel r h ts s zero le = absurd (omega arith)
-  with-fuel r h ts s (suc g) le = h ts s g (omega arith)
-
-  -- no parenthesis stands there: a chain
-  pub mirrors-chain : (r : Parse) → (getD kinds at endKind ≡ kindOf lparen → ⊥) → Chained kinds at ops r → Mirrors kinds d near at ops r
-  mirrors-chain r k c =
-      record {
-        answers = with-fuel r (λ ts s g _. rw (no-parens d ts g (λ e. k (shows-front kinds at ts s ∙ e))) (c .answers ts s));
-        moves = c .moves;
-      }
-
-  -- a parenthesis stands there
-  module _ (k : getD kinds at endKind ≡ kindOf lparen) where
-    pub mirrors-deep : d ≡ 0 → Mirrors kinds d near at ops refusedParse
-    mirrors-deep e =
-        record {
-          answers = with-fuel refusedParse (λ ts s g _. rw (too-deep d ts g e (sym (shows-front kinds at ts s) ∙ k)) refl);
-          moves = never-moves kinds at;
-        }
-
-    module _ (deep : d ≡ 0 → ⊥) (r : Parse) (a : Mirrors kinds (d - 1) (level OR) (at + 1) ops r) where
-      opened : (ts : List Token) → TokensAt kinds at ts → (g : ℕ) → parse (suc g) d near ts ≡ parsedThen (parse g (d - 1) (level OR) (afterFront ts)) closed
-      opened ts s g = in-parens d ts g deep (sym (shows-front kinds at ts s) ∙ k)
-
-      inner : (ts : List Token) → TokensAt kinds at ts → (g : ℕ) → length ts * 4 ≤ g → ParseIs kinds ops (parse g (d - 1) (level OR) (afterFront ts)) r
-      inner ts s g le =
-          let s' = shows-behind kinds at ts s in
-          let i = kind-inside kinds at (kindOf lparen) k (omega arith) in
-          let x = shows-length kinds at ts s in
-          let y = shows-length kinds (at + 1) (afterFront ts) s' in
-          a .answers (afterFront ts) s' g (omega arith)
-
-      pub inside-fails : r .ok ≡ false → Mirrors kinds d near at ops r
-      inside-fails h =
+    module _ (at : ℕ) (q : Query) (first : Parse) (q₀ : Query) (a : Mirrors names s d (tighter o) at q first q₀) where
+      pub going-starts : Going first q₀ first q₀
+      going-starts =
           record {
-            answers = with-fuel r (λ ts s g le.
-                let w = answers-refused kinds ops (parse g (d - 1) (level OR) (afterFront ts)) r (inner ts s g le) h in
-                rw (opened ts s g, w .0) (w .1));
-            moves = λ t. true-not-false (r .ok) t h;
+            started = λ h. h;
+            onward = λ h. onward-from at first (a .moves h .1);
+            reached = λ h whole q r. r;
+            failed = λ h k. true-not-false (first .ok) k h;
           }
 
-      pub unclosed : r .ok ≡ true → (getD kinds (r .at) endKind ≡ kindOf rparen → ⊥) → Mirrors kinds d near at ops refusedParse
-      unclosed h n =
-          record {
-            answers = with-fuel refusedParse (λ ts s g le.
-                let b = answers-found kinds ops (parse g (d - 1) (level OR) (afterFront ts)) r (inner ts s g le) h in
-                rw (opened ts s g, b .2, ne-eqb (frontKind (b .1)) (kindOf rparen) (λ e. n (shows-front kinds (r .at) (b .1) (b .3) ∙ e))) refl);
-            moves = never-moves kinds at;
-          }
+      -- a left side was found
+      left-found : first .ok ≡ true → (ts : List Token) → TokensAt names s at ts → (f : ℕ) → fuel (level o) ts ≤ f → Reached (parse f d (level o) ts) q (first .at) q₀
+      unfolding parse
+      left-found h ts t zero le = absurd (omega (arith, ranks o))
+      left-found h ts t (suc g) le =
+          let b = answers-found q (parse g d (tighter o) ts) first q₀ (a .answers ts t g (omega (arith, ranks o))) h in
+          let n = parse-shorter g d (tighter o) ts (b .0) (b .1) (b .2) in
+          (b .0, b .1, g, b .3, b .4, omega (arith, ranks o), ap (λ x. parsedThen x (λ t us. goOn g d o t us)) (b .2))
 
-      pub mirrors-parens : r .ok ≡ true → getD kinds (r .at) endKind ≡ kindOf rparen → Mirrors kinds d near at ops (record { ok = true; at = r .at + 1; ops = r .ops })
-      mirrors-parens h n =
-          let m = a .moves h in
-          record {
-            answers = with-fuel (record { ok = true; at = r .at + 1; ops = r .ops }) (λ ts s g le.
-                let b = answers-found kinds ops (parse g (d - 1) (level OR) (afterFront ts)) r (inner ts s g le) h in
-                rw (opened ts s g, b .2, eq-eqb (frontKind (b .1)) (kindOf rparen) (sym (shows-front kinds (r .at) (b .1) (b .3)) ∙ n))
-                (refl, shows-behind kinds (r .at) (b .1) (b .3), b .4));
-            moves = λ _. let i = kind-inside kinds (r .at) (kindOf rparen) n (omega arith) in omega arith;
-          }
+      -- or there is none
+      left-missing : first .ok ≡ false → (ts : List Token) → TokensAt names s at ts → (f : ℕ) → fuel (level o) ts ≤ f → parse f d (level o) ts ≡ refused
+      unfolding parse
+      left-missing h ts t zero le = absurd (omega (arith, ranks o))
+      left-missing h ts t (suc g) le =
+          ap (λ x. parsedThen x (λ t us. goOn g d o t us)) (answers-refused q (parse g d (tighter o) ts) first q₀ (a .answers ts t g (omega (arith, ranks o))) h)
 
--- ---- NEAR chains
+      module _ (left : Parse) (q' : Query) (i : Going first q₀ left q') where
+        -- something was refused
+        pub going-fails : left .ok ≡ false → Mirrors names s d (level o) at q left q'
+        going-fails h = record { answers = λ ts t f le. rw (missing ts t f le) h; moves = never-moves at left h }
+          where
+            missing : (ts : List Token) → TokensAt names s at ts → (f : ℕ) → fuel (level o) ts ≤ f → parse f d (level o) ts ≡ refused
+            missing ts t f le =
+                bool-case (first .ok)
+                (λ k. i .failed h k (parse f d (level o) ts) q (left-found k ts t f le))
+                (λ k. left-missing k ts t f le)
 
--- a loop over the links has come to the place `j`
-abbrev pub Links : List ℕ → ℕ → ℕ → Type 0
-Links kinds at j = (ts : List Token) → TokensAt kinds at ts → (c : Chain) × (us : List Token) × TokensAt kinds j us × (chainOf ts ≡ linksOf c us)
+        module _ (h : left .ok ≡ true) where
+          left-moves : (at < left .at) × Onward names s at left
+          left-moves =
+              let m = a .moves (i .started h) in
+              let w = i .onward h in
+              (omega (arith, m .0, w .back), onward-on at first (first .at) left (m .1) (omega arith) (λ b. b) w)
 
-module _ (kinds : List ℕ) (at : ℕ) where
-  pub chain-missing : (ops : Ops) → (getD kinds at endKind ≡ operandKind → ⊥) → Chained kinds at ops refusedParse
-  chain-missing ops k =
-      record {
-        answers = λ ts s. rw (no-operand ts (λ e. k (shows-front kinds at ts s ∙ e))) refl;
-        moves = never-moves kinds at;
-      }
+          pub going-past : at < left .at
+          going-past = left-moves .0
 
-  pub links-start : getD kinds at endKind ≡ operandKind → Links kinds at (at + 1)
-  links-start k ts s =
-      let p = front-operand ts (sym (shows-front kinds at ts s) ∙ k) in
-      (record { first = p .0; links = [] }, afterFront ts, shows-behind kinds at ts s, ap chainOf (p .1))
+          -- the operator stops
+          pub going-ends : rightAt (opKind o) (left .ahead) (left .at) ≡ Nothing → Mirrors names s d (level o) at q left q'
+          unfolding parse
+          going-ends e =
+              record {
+                answers = λ ts t f le. go (parse f d (level o) ts) (i .reached h (parse f d (level o) ts) q (left-found (i .started h) ts t f le));
+                moves = λ _. left-moves;
+              }
+            where
+              go : (whole : Parsed) → Reached whole q (left .at) q' → ParseIs names s q whole left q'
+              go whole (l, ts, zero, t, c, le, x) = absurd (omega (arith, ranks o))
+              go whole (l, ts, suc g, t, c, le, x) =
+                  let stops = right-stops names s (left .at) o ts t (ap (λ z. rightAt (opKind o) z (left .at)) (sym (i .onward h .looked)) ∙ e) in
+                  let y : goOn (suc g) d o l ts ≡ found l ts = rw stops in
+                  rw (x ∙ y) (h, t, c)
 
-  module _ (j : ℕ) (inv : Links kinds at j) where
-    module _ (k : getD kinds j endKind ≡ nearKind) (us : List Token) (s : TokensAt kinds j us) where
-      behind-near : (n : Distance) × (us ≡ NEAR n ∷ afterFront us) × TokensAt kinds (j + 1) (afterFront us)
-      behind-near = let n = front-near us (sym (shows-front kinds j us s) ∙ k) in (n .0, n .1, shows-behind kinds j us s)
+    -- the operator goes on: its right side begins at the place `n`
+    module _ (first : Parse) (q₀ : Query) (left : Parse) (q' : Query) (i : Going first q₀ left q') (h : left .ok ≡ true) (n : ℕ) (e : rightAt (opKind o) (left .ahead) (left .at) ≡ At n) where
+      right-is : rightAt (opKind o) (lookAt s (left .at)) (left .at) ≡ At n
+      right-is = ap (λ z. rightAt (opKind o) z (left .at)) (sym (i .onward h .looked)) ∙ e
 
-    pub links-turn : getD kinds j endKind ≡ nearKind → getD kinds (j + 1) endKind ≡ operandKind → Links kinds at (j + 2)
-    unfolding linksOf
-    links-turn k m ts s = go (inv ts s)
-      where
-        go : (c : Chain) × (us : List Token) × TokensAt kinds j us × (chainOf ts ≡ linksOf c us)
-            → (c : Chain) × (us : List Token) × TokensAt kinds (j + 2) us × (chainOf ts ≡ linksOf c us)
-        go (c, us, s, e) =
-            let n = behind-near k us s in
-            let p = front-operand (afterFront us) (sym (shows-front kinds (j + 1) (afterFront us) (n .2)) ∙ m) in
-            let z : (j + 1) + 1 ≡ j + 2 = omega arith in (
-              extended c (n .0) (p .0),
-              afterFront (afterFront us),
-              subst (λ i. TokensAt kinds i (afterFront (afterFront us))) z (shows-behind kinds (j + 1) (afterFront us) (n .2)),
-              e ∙ ap (linksOf c) (n .1 ∙ ap (λ vs. NEAR (n .0) ∷ vs) (p .1)),
+      pub going-place : (left .at ≤ n) × (n ≤ length s)
+      going-place = right-place names s (left .at) o n right-is (i .onward h .inside)
+
+      module _ (right : Parse) (after : Query) (a : Mirrors names s d (tighter o) n q' right after) where
+        -- what the right side is
+        right-answers : (ts : List Token) (g : ℕ) → TokensAt names s (left .at) ts → fuel (level o) ts ≤ suc g → ParseIs names s q' (parse g d (tighter o) (rightSide o ts)) right after
+        right-answers ts g t le =
+            a .answers (rightSide o ts) (right-goes-on names s (left .at) o n right-is ts t .1) g (omega (arith, ranks o, right-shorter o ts))
+
+        turn : (l : Tree) (ts : List Token) (g : ℕ) (x : Parsed) → TokensAt names s (left .at) ts → parse g d (tighter o) (rightSide o ts) ≡ x
+            → goOn (suc g) d o l ts ≡ parsedThen x (λ r us. goOn g d o (joined o l r) us)
+        unfolding parse
+        turn l ts g x t h = rw (right-goes-on names s (left .at) o n right-is ts t .0) (ap (λ y. parsedThen y (λ r us. goOn g d o (joined o l r) us)) h)
+
+        right-found : right .ok ≡ true → (whole : Parsed) (q : Query) → Reached whole q (left .at) q' → Reached whole q (right .at) (withCode after (opCode o))
+        right-found ok whole q (l, ts, zero, t, c, le, x) = absurd (omega (arith, ranks o))
+        right-found ok whole q (l, ts, suc g, t, c, le, x) =
+            let b = answers-found q' (parse g d (tighter o) (rightSide o ts)) right after (right-answers ts g t le) ok in
+            let m = parse-shorter g d (tighter o) (rightSide o ts) (b .0) (b .1) (b .2) in
+            let k = right-shorter o ts in (
+              joined o l (b .0),
+              b .1,
+              g,
+              b .3,
+              ap (λ y. withCode y (opCode o)) (b .4 ∙ ap (withTree (b .0)) c) ∙ with-joined o l (b .0) q,
+              omega (arith, ranks o),
+              x ∙ turn l ts g (found (b .0) (b .1)) t (b .2),
             )
 
-    pub link-missing : (ops : Ops) → getD kinds j endKind ≡ nearKind → (getD kinds (j + 1) endKind ≡ operandKind → ⊥) → Chained kinds at ops refusedParse
-    link-missing ops k m = record { answers = λ ts s. go ts (inv ts s); moves = never-moves kinds at }
-      where
-        go : (ts : List Token) → (c : Chain) × (us : List Token) × TokensAt kinds j us × (chainOf ts ≡ linksOf c us) → ParseIs kinds ops (chainOf ts) refusedParse
-        go ts (c, us, s, e) =
-            let n = behind-near k us s in
-            rw (e ∙ ap (linksOf c) (n .1) ∙ broken-link c (n .0) (afterFront us) (λ w. m (shows-front kinds (j + 1) (afterFront us) (n .2) ∙ w))) refl
+        right-missing : right .ok ≡ false → (whole : Parsed) (q : Query) → Reached whole q (left .at) q' → whole ≡ refused
+        right-missing no-ok whole q (l, ts, zero, t, c, le, x) = absurd (omega (arith, ranks o))
+        right-missing no-ok whole q (l, ts, suc g, t, c, le, x) =
+            x ∙ turn l ts g refused t (answers-refused q' (parse g d (tighter o) (rightSide o ts)) right after (right-answers ts g t le) no-ok)
 
-    pub chain-ends : (ops : Ops) → (getD kinds j endKind ≡ nearKind → ⊥) → at < j → j ≤ length kinds → Chained kinds at ops (record { ok = true; at = j; ops = pushCode ops chainCode })
-    unfolding pushCodes
-    chain-ends ops k l m =
-        record {
-          answers = λ ts s. go ts (inv ts s);
-          moves = λ _. (l, m);
-        }
-      where
-        go : (ts : List Token) → (c : Chain) × (us : List Token) × TokensAt kinds j us × (chainOf ts ≡ linksOf c us)
-            → ParseIs kinds ops (chainOf ts) (record { ok = true; at = j; ops = pushCode ops chainCode })
-        go ts (c, us, s, e) = rw (e ∙ no-link c us (λ w. k (shows-front kinds j us s ∙ w))) (refl, s, refl)
+        -- the answer that goes round: that of the right side, with the operator's code
+        module _ (x : Parse) (ok : x .ok ≡ right .ok) (place : x .at ≡ right .at) (ahead : x .ahead ≡ right .ahead) where
+          right-onward : x .ok ≡ true → Onward names s (first .at) x
+          right-onward k =
+              let p = going-place in
+              let m = a .moves (sym ok ∙ k) .1 in
+              onward-on (first .at) left n x (i .onward h) (p .0) (right-broken names s (left .at) o n right-is)
+              (record {
+                back = omega (arith, m .back);
+                inside = omega (arith, m .inside);
+                looked = ahead ∙ m .looked ∙ ap (lookAt s) (sym place);
+                broken = λ b. ap (λ j. lexOf names (drop j s)) place ∙ m .broken b;
+              })
+
+          turned : Going first q₀ x (withCode after (opCode o))
+          turned =
+              record {
+                started = λ _. i .started h;
+                onward = right-onward;
+                reached = λ k whole q r. subst (λ j. Reached whole q j (withCode after (opCode o))) (sym place) (right-found (sym ok ∙ k) whole q (i .reached h whole q r));
+                failed = λ k _ whole q r. right-missing (sym ok ∙ k) whole q (i .reached h whole q r);
+              }
+
+          pub going-turns : (ops : Ops) → ops ≡ pushCode (after .ops) (opCode o) → Going first q₀ x (record { words = after .words; ops = ops })
+          going-turns ops e = subst (λ (p : Ops). Going first q₀ x (record { words = after .words; ops = p })) (sym e) turned
+
+          pub going-less : left-over s x < left-over s left
+          going-less =
+              rw h
+              (pick-case (λ (m : ℕ). m < suc (length s - left .at)) (x .ok) (suc (length s - x .at)) 0
+              (λ k. let p = going-place in let m = a .moves (sym ok ∙ k) in omega (arith, place, m .0, m .1 .inside))
+              (λ _. omega arith))

@@ -2,6 +2,6 @@
 pub mod Tree
 pub mod Grammar
 pub mod Parsing
-pub mod Kinds
+pub mod Levels
 pub mod Reading
 pub mod Marked

@@ -8,9 +8,8 @@ use mathlib.Core.List.{List, [], _∷_, _++_}
 use lib.ListN.{length}
 use lib.Dec.{eqb}
 use Rattle.common.specs.Pick.{pick, pickLazy, either}
-use Rattle.lexer.specs.Token.{Token, lparen, rparen, NEAR, operand, Phrase, kindOf}
+use Rattle.lexer.specs.Token.{Token, lparen, rparen, NEAR, operand, Phrase, kindOf, operandKind, frontKind, afterFront}
 use Rattle.lexer.specs.Token as token
-use Rattle.lexer.specs.Filling.{operandKind}
 use Rattle.query.specs.Tree.{Op, OR, AND, NOT, Chain, Tree, leaf, joined}
 use Rattle.query.specs.Grammar.{Level, near, level, tighter, maxDepth}
 
@@ -22,24 +21,6 @@ pub data Parsed : Type 0 where
 abbrev pub parsedThen : Parsed → (Tree → List Token → Parsed) → Parsed
 parsedThen (found t ts) k = k t ts
 parsedThen refused k = refused
-
--- ---- the token at the front
-
--- the kind of NEAR, whatever it carries, and beside those of `kindOf` one for no token
-abbrev pub nearKind : ℕ
-nearKind = 5
-
-abbrev pub endKind : ℕ
-endKind = 7
-
-abbrev pub frontKind : List Token → ℕ
-frontKind [] = endKind
-frontKind (t ∷ ts) = kindOf t
-
--- the tokens after it
-abbrev pub afterFront : List Token → List Token
-afterFront [] = []
-afterFront (t ∷ ts) = ts
 
 -- ---- the right side of an operator
 

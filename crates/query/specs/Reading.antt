@@ -8,9 +8,8 @@ use mathlib.Core.List.{List, []}
 use lib.ListN.{length}
 use lib.Dec.{leb}
 use Rattle.common.specs.Pick.{pick}
-use Rattle.lexer.specs.Token.{Token, packed, maxQuery}
-use Rattle.lexer.specs.declared.Lexed.{Lexed}
-use Rattle.lexer.specs.Lexing.{QueryTokens, lexed, Lexing, tokens, refused, lexOf, isWithin}
+use Rattle.lexer.specs.Token.{packed, maxQuery}
+use Rattle.lexer.specs.Lexing.{Lexing, tokens, refused, lexOf, isWithin}
 use Rattle.query.specs.declared.Reading.{Reading}
 use Rattle.query.specs.Tree.{Tree, compile, packedOps}
 use Rattle.query.specs.Grammar.{Reads}
@@ -40,13 +39,6 @@ pub record Compiles (names : List (List ℕ)) (s : List ℕ) (r : Reading) : Typ
 abbrev pub readingOf : Parsed → Reading
 readingOf (found t ts) = reading t
 readingOf parsing.refused = refusedReading
-
--- the lexer's answer for the tokens `ts`
-pub record TokensOf (l : Lexed) (ts : List Token) : Type 0 where
-  pub names : List (List ℕ)
-  pub text : List ℕ
-  pub split : QueryTokens names text ts
-  pub content : l ≡ lexed ts
 
 -- ---- computed from the bytes
 

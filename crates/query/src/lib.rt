@@ -1,19 +1,22 @@
-// Reads a query (document 01, "The query language"): its tokens, the tree that they are, and the compiled query.
+// Reads a query (document 01, "The query language") from its bytes: the tree that they are, and the compiled query.
 //
 //     sqlite fantastic OR impressive      text
-//     6      6         3  6               kinds of the tokens
 //     0      0 1          0 2             codes: (sqlite AND fantastic) OR impressive
+//
+// `or_level`, `and_level`, `not_level` and `operand_level` call each other, one for each level of binding. Each reads from a
+// place of the text as much as its level allows, and answers where it stopped and what comes next there.
+mod postfix;
+
 ghost use mathlib.Core.Path.{_≡_};
-ghost use Prim.Native.Nat.{_≤_};
+ghost use Prim.Native.Nat.{ℕ, _≤_};
 ghost use mathlib.Core.List.{List};
-ghost use lib.ListN.{length, getD};
+ghost use lib.ListN.{length};
 ghost use Rattle.offsets.specs.Cut.{cut};
-ghost use Rattle.lexer.specs.Token.{Token, maxQuery};
+ghost use Rattle.lexer.specs.Token.{maxQuery};
 ghost use Rattle.query.specs.Tree.{OR, AND, NOT};
 ghost use Rattle.query.specs.Grammar.{near, level};
-ghost use Rattle.query.specs.Kinds.{rightAt, pushCode, noOps, refusedParse, Chained, Mirrors};
-ghost use Rattle.query.specs.Reading.{refusedReading, readingOf, TokensOf, readOf, Compiles};
-ghost use Rattle.query.specs.Parsing.{endKind, treeOf};
+ghost use Rattle.query.specs.Levels.{rightAt, queryOf, Phrased, Chained, Mirrors};
+ghost use Rattle.query.specs.Reading.{refusedReading, readOf, Compiles};
 
 // A query of 16 words has at most 16 NEAR chains and 15 operators.
 pub const MAX_CODES: usize = 31;
@@ -29,9 +32,6 @@ pub const CODE_AND: u8 = 1;
 pub const CODE_OR: u8 = 2;
 
 pub const CODE_NOT: u8 = 3;
-
-// The kind of no token: what stands after the last one.
-const END: u8 = 7;
 
 // The NEAR chains and operators of a query in postfix order, a code for each.
 pub struct Ops {
@@ -53,11 +53,16 @@ pub struct Reading {
     pub query: Query,
 }
 
-// What was read of a row of tokens: where the rest of it begins, and the codes so far.
+// What was read from a place of the text on. Words and codes are put into lent arrays, as they are read.
 struct Parse {
+    // Whether it is in the language.
     ok: bool,
+    // Where the rest begins, and what comes next there.
     at: usize,
-    ops: Ops,
+    ahead: lexer::Ahead,
+    // How many words and codes there are then.
+    count: usize,
+    len: usize,
 }
 
 // Where the right side of an operator begins.
@@ -66,213 +71,391 @@ enum Right {
     Nothing,
 }
 
-// The kind of the token at a place.
-fn kind_at(kinds: &[u8], at: usize) -> u8
-    ensures { λ r. ⌜ r ≡ getD (now (kinds .entry)) at endKind ⌝ }
-{
-    if at < kinds.len() {
-        return kinds[at];
-    }
-    END
-}
-
 // The right side of an operator: after it, or, where an AND is not written, where an operand begins.
-fn right_side(kinds: &[u8], at: usize, operator: u8) -> Right
-    requires { ⌜ at ≤ length (now kinds) ⌝ }
-    ensures { λ r. ⌜ r ≡ rightAt operator (getD (now (kinds .entry)) at endKind) at ⌝ }
+fn right_side(ahead: lexer::Ahead, at: usize, operator: u8) -> Right
+    ensures { λ r. ⌜ r ≡ rightAt operator ahead at ⌝ }
 {
-    let kind = kind_at(kinds, at);
-    if kind == operator {
-        return Right::At(at + 1);
+    if ahead.kind == operator {
+        return Right::At(ahead.next);
     }
     if operator != lexer::AND {
         return Right::Nothing;
     }
-    if kind == lexer::LPAREN {
+    if ahead.kind == lexer::LPAREN {
         return Right::At(at);
     }
-    if kind == lexer::OPERAND {
+    if ahead.kind == lexer::OPERAND {
         return Right::At(at);
     }
     Right::Nothing
 }
 
-// No codes.
-fn no_ops() -> Ops
-    ensures { λ r. ⌜ r ≡ noOps ⌝ }
+// Reads a word or phrase, whose first word is tied as told.
+fn phrase(
+    names: &[u8],
+    name_ends: &[u32],
+    s: &[u8],
+    at: usize,
+    tie: u8,
+    distance: u16,
+    text: &mut [u8; lexer::MAX_QUERY],
+    ends: &mut [u16; lexer::MAX_WORDS],
+    marks: &mut [u8; lexer::MAX_WORDS],
+    columns: &mut [u16; lexer::MAX_WORDS],
+    ties: &mut [u8; lexer::MAX_WORDS],
+    distances: &mut [u16; lexer::MAX_WORDS],
+    count: usize,
+    len: usize,
+) -> Parse
+    ensures { λ r. ⌜ ((codes : List ℕ) → Phrased (cut (now (names .entry)) (now («name_ends» .entry))) (now (s .entry)) at tie distance (queryOf (now (text .entry)) (now (ends .entry)) (now (marks .entry)) (now (columns .entry)) (now (ties .entry)) (now (distances .entry)) count codes len) r (queryOf (now (text .exit)) (now (ends .exit)) (now (marks .exit)) (now (columns .exit)) (now (ties .exit)) (now (distances .exit)) (r .count) codes (r .len))) ⌝ }
 {
-    Ops {
-        codes: [0; MAX_CODES],
-        len: 0,
-    }
-}
-
-// A row of tokens that is not in the language.
-fn refused() -> Parse
-    ensures { λ r. ⌜ r ≡ refusedParse ⌝ }
-{
-    let ops = no_ops();
+    let taken = lexer::take_operand(
+        names,
+        name_ends,
+        text,
+        ends,
+        marks,
+        columns,
+        ties,
+        distances,
+        count,
+        s,
+        at,
+        tie,
+        distance,
+    );
+    let ahead = lexer::look(s, taken.next);
     Parse {
-        ok: false,
-        at: 0,
-        ops: ops,
+        ok: taken.ok,
+        at: taken.next,
+        ahead: ahead,
+        count: taken.count,
+        len,
     }
-}
-
-// One code more; past the end nothing is stored. A query of at most 16 words never comes there.
-fn push(ops: Ops, code: u8) -> Ops
-    ensures { λ r. ⌜ r ≡ pushCode ops code ⌝ }
-{
-    let mut more = ops;
-    let n = ops.len;
-    if n < MAX_CODES {
-        more.codes[n] = code;
-        more.len = n + 1;
-    }
-    more
 }
 
 // Reads a NEAR chain: a word or phrase, and further ones after NEAR.
-fn chain(kinds: &[u8], at: usize, ops: Ops) -> Parse
-    requires { ⌜ at ≤ length (now kinds) ⌝ }
-    ensures { λ r. ⌜ Chained (now (kinds .entry)) at ops r ⌝ }
+fn chain(
+    names: &[u8],
+    name_ends: &[u32],
+    s: &[u8],
+    at: usize,
+    text: &mut [u8; lexer::MAX_QUERY],
+    ends: &mut [u16; lexer::MAX_WORDS],
+    marks: &mut [u8; lexer::MAX_WORDS],
+    columns: &mut [u16; lexer::MAX_WORDS],
+    ties: &mut [u8; lexer::MAX_WORDS],
+    distances: &mut [u16; lexer::MAX_WORDS],
+    codes: &mut [u8; MAX_CODES],
+    count: usize,
+    len: usize,
+) -> Parse
+    ensures { λ r. ⌜ Chained (cut (now (names .entry)) (now («name_ends» .entry))) (now (s .entry)) at (queryOf (now (text .entry)) (now (ends .entry)) (now (marks .entry)) (now (columns .entry)) (now (ties .entry)) (now (distances .entry)) count (now (codes .entry)) len) r (queryOf (now (text .exit)) (now (ends .exit)) (now (marks .exit)) (now (columns .exit)) (now (ties .exit)) (now (distances .exit)) (r .count) (now (codes .exit)) (r .len)) ⌝ }
 {
-    if kind_at(kinds, at) != lexer::OPERAND {
-        return refused();
-    }
-    let mut j = at + 1;
-    while kind_at(kinds, j) == lexer::NEAR {
-        if kind_at(kinds, j + 1) != lexer::OPERAND {
-            return refused();
+    let mut left = phrase(
+        names,
+        name_ends,
+        s,
+        at,
+        lexer::BEGINS,
+        0,
+        text,
+        ends,
+        marks,
+        columns,
+        ties,
+        distances,
+        count,
+        len,
+    );
+    while left.ok {
+        let ahead = left.ahead;
+        if ahead.kind != lexer::NEAR {
+            left.len = postfix::push(codes, left.len, CODE_CHAIN);
+            return left;
         }
-        j += 2;
+        left = phrase(
+            names,
+            name_ends,
+            s,
+            ahead.next,
+            ahead.tie,
+            ahead.distance,
+            text,
+            ends,
+            marks,
+            columns,
+            ties,
+            distances,
+            left.count,
+            left.len,
+        );
     }
-    let more = push(ops, CODE_CHAIN);
-    Parse {
-        ok: true,
-        at: j,
-        ops: more,
-    }
+    left
 }
 
 // Reads at the level of OR, the loosest, with parentheses at most `depth` deep.
-fn or_level(kinds: &[u8], depth: usize, at: usize, ops: Ops) -> Parse
-    requires { ⌜ (length (now kinds) ≤ maxQuery) × (at ≤ length (now kinds)) ⌝ }
-    ensures { λ r. ⌜ Mirrors (now (kinds .entry)) depth (level OR) at ops r ⌝ }
+fn or_level(
+    names: &[u8],
+    name_ends: &[u32],
+    s: &[u8],
+    depth: usize,
+    at: usize,
+    text: &mut [u8; lexer::MAX_QUERY],
+    ends: &mut [u16; lexer::MAX_WORDS],
+    marks: &mut [u8; lexer::MAX_WORDS],
+    columns: &mut [u16; lexer::MAX_WORDS],
+    ties: &mut [u8; lexer::MAX_WORDS],
+    distances: &mut [u16; lexer::MAX_WORDS],
+    codes: &mut [u8; MAX_CODES],
+    count: usize,
+    len: usize,
+) -> Parse
+    requires { ⌜ (length (now s) ≤ maxQuery) × (at ≤ length (now s)) ⌝ }
+    ensures { λ r. ⌜ Mirrors (cut (now (names .entry)) (now («name_ends» .entry))) (now (s .entry)) depth (level OR) at (queryOf (now (text .entry)) (now (ends .entry)) (now (marks .entry)) (now (columns .entry)) (now (ties .entry)) (now (distances .entry)) count (now (codes .entry)) len) r (queryOf (now (text .exit)) (now (ends .exit)) (now (marks .exit)) (now (columns .exit)) (now (ties .exit)) (now (distances .exit)) (r .count) (now (codes .exit)) (r .len)) ⌝ }
 {
-    let first = and_level(kinds, depth, at, ops);
-    if !first.ok {
-        return first;
-    }
-    let mut j = first.at;
-    let mut codes = first.ops;
-    loop {
-        let step = right_side(kinds, j, lexer::OR);
+    let mut left = and_level(
+        names,
+        name_ends,
+        s,
+        depth,
+        at,
+        text,
+        ends,
+        marks,
+        columns,
+        ties,
+        distances,
+        codes,
+        count,
+        len,
+    );
+    while left.ok {
+        let ahead = left.ahead;
+        let step = right_side(ahead, left.at, lexer::OR);
         let Right::At(n) = step else {
-            break;
+            return left;
         };
-        let right = and_level(kinds, depth, n, codes);
-        if !right.ok {
-            return right;
-        }
-        let both = right.ops;
-        codes = push(both, CODE_OR);
-        j = right.at;
+        left = and_level(
+            names,
+            name_ends,
+            s,
+            depth,
+            n,
+            text,
+            ends,
+            marks,
+            columns,
+            ties,
+            distances,
+            codes,
+            left.count,
+            left.len,
+        );
+        left.len = postfix::push(codes, left.len, CODE_OR);
     }
-    Parse {
-        ok: true,
-        at: j,
-        ops: codes,
-    }
+    left
 }
 
 // Reads at the level of AND, written or not.
-fn and_level(kinds: &[u8], depth: usize, at: usize, ops: Ops) -> Parse
-    requires { ⌜ (length (now kinds) ≤ maxQuery) × (at ≤ length (now kinds)) ⌝ }
-    ensures { λ r. ⌜ Mirrors (now (kinds .entry)) depth (level AND) at ops r ⌝ }
+fn and_level(
+    names: &[u8],
+    name_ends: &[u32],
+    s: &[u8],
+    depth: usize,
+    at: usize,
+    text: &mut [u8; lexer::MAX_QUERY],
+    ends: &mut [u16; lexer::MAX_WORDS],
+    marks: &mut [u8; lexer::MAX_WORDS],
+    columns: &mut [u16; lexer::MAX_WORDS],
+    ties: &mut [u8; lexer::MAX_WORDS],
+    distances: &mut [u16; lexer::MAX_WORDS],
+    codes: &mut [u8; MAX_CODES],
+    count: usize,
+    len: usize,
+) -> Parse
+    requires { ⌜ (length (now s) ≤ maxQuery) × (at ≤ length (now s)) ⌝ }
+    ensures { λ r. ⌜ Mirrors (cut (now (names .entry)) (now («name_ends» .entry))) (now (s .entry)) depth (level AND) at (queryOf (now (text .entry)) (now (ends .entry)) (now (marks .entry)) (now (columns .entry)) (now (ties .entry)) (now (distances .entry)) count (now (codes .entry)) len) r (queryOf (now (text .exit)) (now (ends .exit)) (now (marks .exit)) (now (columns .exit)) (now (ties .exit)) (now (distances .exit)) (r .count) (now (codes .exit)) (r .len)) ⌝ }
 {
-    let first = not_level(kinds, depth, at, ops);
-    if !first.ok {
-        return first;
-    }
-    let mut j = first.at;
-    let mut codes = first.ops;
-    loop {
-        let step = right_side(kinds, j, lexer::AND);
+    let mut left = not_level(
+        names,
+        name_ends,
+        s,
+        depth,
+        at,
+        text,
+        ends,
+        marks,
+        columns,
+        ties,
+        distances,
+        codes,
+        count,
+        len,
+    );
+    while left.ok {
+        let ahead = left.ahead;
+        let step = right_side(ahead, left.at, lexer::AND);
         let Right::At(n) = step else {
-            break;
+            return left;
         };
-        let right = not_level(kinds, depth, n, codes);
-        if !right.ok {
-            return right;
-        }
-        let both = right.ops;
-        codes = push(both, CODE_AND);
-        j = right.at;
+        left = not_level(
+            names,
+            name_ends,
+            s,
+            depth,
+            n,
+            text,
+            ends,
+            marks,
+            columns,
+            ties,
+            distances,
+            codes,
+            left.count,
+            left.len,
+        );
+        left.len = postfix::push(codes, left.len, CODE_AND);
     }
-    Parse {
-        ok: true,
-        at: j,
-        ops: codes,
-    }
+    left
 }
 
 // Reads at the level of NOT.
-fn not_level(kinds: &[u8], depth: usize, at: usize, ops: Ops) -> Parse
-    requires { ⌜ (length (now kinds) ≤ maxQuery) × (at ≤ length (now kinds)) ⌝ }
-    ensures { λ r. ⌜ Mirrors (now (kinds .entry)) depth (level NOT) at ops r ⌝ }
+fn not_level(
+    names: &[u8],
+    name_ends: &[u32],
+    s: &[u8],
+    depth: usize,
+    at: usize,
+    text: &mut [u8; lexer::MAX_QUERY],
+    ends: &mut [u16; lexer::MAX_WORDS],
+    marks: &mut [u8; lexer::MAX_WORDS],
+    columns: &mut [u16; lexer::MAX_WORDS],
+    ties: &mut [u8; lexer::MAX_WORDS],
+    distances: &mut [u16; lexer::MAX_WORDS],
+    codes: &mut [u8; MAX_CODES],
+    count: usize,
+    len: usize,
+) -> Parse
+    requires { ⌜ (length (now s) ≤ maxQuery) × (at ≤ length (now s)) ⌝ }
+    ensures { λ r. ⌜ Mirrors (cut (now (names .entry)) (now («name_ends» .entry))) (now (s .entry)) depth (level NOT) at (queryOf (now (text .entry)) (now (ends .entry)) (now (marks .entry)) (now (columns .entry)) (now (ties .entry)) (now (distances .entry)) count (now (codes .entry)) len) r (queryOf (now (text .exit)) (now (ends .exit)) (now (marks .exit)) (now (columns .exit)) (now (ties .exit)) (now (distances .exit)) (r .count) (now (codes .exit)) (r .len)) ⌝ }
 {
-    let first = operand_level(kinds, depth, at, ops);
-    if !first.ok {
-        return first;
-    }
-    let mut j = first.at;
-    let mut codes = first.ops;
-    loop {
-        let step = right_side(kinds, j, lexer::NOT);
+    let mut left = operand_level(
+        names,
+        name_ends,
+        s,
+        depth,
+        at,
+        text,
+        ends,
+        marks,
+        columns,
+        ties,
+        distances,
+        codes,
+        count,
+        len,
+    );
+    while left.ok {
+        let ahead = left.ahead;
+        let step = right_side(ahead, left.at, lexer::NOT);
         let Right::At(n) = step else {
-            break;
+            return left;
         };
-        let right = operand_level(kinds, depth, n, codes);
-        if !right.ok {
-            return right;
-        }
-        let both = right.ops;
-        codes = push(both, CODE_NOT);
-        j = right.at;
+        left = operand_level(
+            names,
+            name_ends,
+            s,
+            depth,
+            n,
+            text,
+            ends,
+            marks,
+            columns,
+            ties,
+            distances,
+            codes,
+            left.count,
+            left.len,
+        );
+        left.len = postfix::push(codes, left.len, CODE_NOT);
     }
-    Parse {
-        ok: true,
-        at: j,
-        ops: codes,
-    }
+    left
 }
 
 // Reads a NEAR chain, or a query in parentheses.
-fn operand_level(kinds: &[u8], depth: usize, at: usize, ops: Ops) -> Parse
-    requires { ⌜ (length (now kinds) ≤ maxQuery) × (at ≤ length (now kinds)) ⌝ }
-    ensures { λ r. ⌜ Mirrors (now (kinds .entry)) depth near at ops r ⌝ }
+fn operand_level(
+    names: &[u8],
+    name_ends: &[u32],
+    s: &[u8],
+    depth: usize,
+    at: usize,
+    text: &mut [u8; lexer::MAX_QUERY],
+    ends: &mut [u16; lexer::MAX_WORDS],
+    marks: &mut [u8; lexer::MAX_WORDS],
+    columns: &mut [u16; lexer::MAX_WORDS],
+    ties: &mut [u8; lexer::MAX_WORDS],
+    distances: &mut [u16; lexer::MAX_WORDS],
+    codes: &mut [u8; MAX_CODES],
+    count: usize,
+    len: usize,
+) -> Parse
+    requires { ⌜ (length (now s) ≤ maxQuery) × (at ≤ length (now s)) ⌝ }
+    ensures { λ r. ⌜ Mirrors (cut (now (names .entry)) (now («name_ends» .entry))) (now (s .entry)) depth near at (queryOf (now (text .entry)) (now (ends .entry)) (now (marks .entry)) (now (columns .entry)) (now (ties .entry)) (now (distances .entry)) count (now (codes .entry)) len) r (queryOf (now (text .exit)) (now (ends .exit)) (now (marks .exit)) (now (columns .exit)) (now (ties .exit)) (now (distances .exit)) (r .count) (now (codes .exit)) (r .len)) ⌝ }
 {
-    if kind_at(kinds, at) != lexer::LPAREN {
-        return chain(kinds, at, ops);
+    let ahead = lexer::look(s, at);
+    if ahead.kind != lexer::LPAREN {
+        return chain(
+            names,
+            name_ends,
+            s,
+            at,
+            text,
+            ends,
+            marks,
+            columns,
+            ties,
+            distances,
+            codes,
+            count,
+            len,
+        );
     }
     if depth == 0 {
-        return refused();
+        return Parse {
+            ok: false,
+            at,
+            ahead: ahead,
+            count,
+            len,
+        };
     }
-    let inner = or_level(kinds, depth - 1, at + 1, ops);
+    let inner = or_level(
+        names,
+        name_ends,
+        s,
+        depth - 1,
+        ahead.next,
+        text,
+        ends,
+        marks,
+        columns,
+        ties,
+        distances,
+        codes,
+        count,
+        len,
+    );
     if !inner.ok {
         return inner;
     }
-    let j = inner.at;
-    if kind_at(kinds, j) != lexer::RPAREN {
-        return refused();
-    }
-    let codes = inner.ops;
-    Parse {
-        ok: true,
-        at: j + 1,
-        ops: codes,
-    }
+    let close = inner.ahead;
+    let mut outer = inner;
+    outer.at = close.next;
+    let after = lexer::look(s, close.next);
+    outer.ahead = after;
+    outer.ok = close.kind == lexer::RPAREN;
+    outer
 }
 
 // The answer to all bytes that are no query.
@@ -288,7 +471,10 @@ fn refusal() -> Reading
         distances: [0; lexer::MAX_WORDS],
         count: 0,
     };
-    let ops = no_ops();
+    let ops = Ops {
+        codes: [0; MAX_CODES],
+        len: 0,
+    };
     let query = Query {
         words: words,
         ops: ops,
@@ -299,24 +485,60 @@ fn refusal() -> Reading
     }
 }
 
-// The query that the tokens are.
-fn compiled(lexed: lexer::Lexed) -> Reading
-    requires { ⌜ ((ts : List Token) × TokensOf lexed ts) ⌝ }
-    ensures { λ r. ⌜ ((ts : List Token) → TokensOf lexed ts → r ≡ readingOf (treeOf ts)) ⌝ }
+// Reads a query, where the table's columns have the lent names.
+pub fn read(names: &[u8], ends: &[u32], text: &[u8]) -> Reading
+    ensures reader { λ r. ⌜ r ≡ readOf (cut (now (names .entry)) (now (ends .entry))) (now (text .entry)) ⌝ }
+    ensures meaning { λ r. ⌜ Compiles (cut (now (names .entry)) (now (ends .entry))) (now (text .entry)) r ⌝ }
 {
-    let kinds = lexed.kinds;
-    let count = lexed.count;
-    let none = no_ops();
-    let parse = or_level(&kinds[..count], MAX_DEPTH, 0, none);
+    if lexer::MAX_QUERY < text.len() {
+        return refusal();
+    }
+    let mut bytes = [0u8; lexer::MAX_QUERY];
+    let mut word_ends = [0u16; lexer::MAX_WORDS];
+    let mut marks = [0u8; lexer::MAX_WORDS];
+    let mut columns = [0u16; lexer::MAX_WORDS];
+    let mut ties = [0u8; lexer::MAX_WORDS];
+    let mut distances = [0u16; lexer::MAX_WORDS];
+    let mut codes = [0u8; MAX_CODES];
+    let parse = or_level(
+        names,
+        ends,
+        text,
+        MAX_DEPTH,
+        0,
+        &mut bytes,
+        &mut word_ends,
+        &mut marks,
+        &mut columns,
+        &mut ties,
+        &mut distances,
+        &mut codes,
+        0,
+        0,
+    );
     if !parse.ok {
         return refusal();
     }
-    let at = parse.at;
-    if at < count {
+    let ahead = parse.ahead;
+    if ahead.kind != lexer::END {
         return refusal();
     }
-    let words = lexed.words;
-    let ops = parse.ops;
+    if lexer::MAX_WORDS < parse.count {
+        return refusal();
+    }
+    let words = lexer::Words {
+        text: bytes,
+        ends: word_ends,
+        marks: marks,
+        columns: columns,
+        ties: ties,
+        distances: distances,
+        count: parse.count,
+    };
+    let ops = Ops {
+        codes: codes,
+        len: parse.len,
+    };
     let query = Query {
         words: words,
         ops: ops,
@@ -325,16 +547,4 @@ fn compiled(lexed: lexer::Lexed) -> Reading
         ok: true,
         query: query,
     }
-}
-
-// Reads a query, where the table's columns have the lent names.
-pub fn read(names: &[u8], ends: &[u32], text: &[u8]) -> Reading
-    ensures reader { λ r. ⌜ r ≡ readOf (cut (now (names .entry)) (now (ends .entry))) (now (text .entry)) ⌝ }
-    ensures meaning { λ r. ⌜ Compiles (cut (now (names .entry)) (now (ends .entry))) (now (text .entry)) r ⌝ }
-{
-    let lexed = lexer::lex(names, ends, text);
-    if !lexed.ok {
-        return refusal();
-    }
-    compiled(lexed)
 }

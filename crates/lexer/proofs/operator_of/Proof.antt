@@ -3,7 +3,7 @@ use native.Mathlib.Nat.{le-of-lt}
 use native.Mathlib.Omega.{arith}
 use mathlib.Core.Path.{sym, ap, _∙_}
 use borrow.Author.Needs.{needs}
-use Rattle.lexer.specs.Filling.{signOf}
+use Rattle.lexer.specs.Looking.{signOf}
 use Rattle.lexer.proofs.Runs.{near-read}
 use Rattle.lexer.proofs.LexSteps.{digits-few, digits-pass, run-and, run-or, run-not, run-near, run-written, run-other}
 use Rattle.lexer.proofs.operator_of.Statement.{statement}

@@ -1,94 +1,75 @@
--- `query::chain` meets its contract. The loop's invariant: `j` lies after the first operand and the links that were
--- read, within the row, and the chain so far goes on there.
-use Prim.Native.Nat.{_+_, _-_, _≤_, _<_}
-use native.Mathlib.Omega.{arith}
-use mathlib.Core.Path.{sym, _∙_}
-use lib.ListN.{length}
-use Rattle.query.proofs.Places.{kind-inside}
-use Rattle.query.proofs.Steps.{Links, chain-missing, links-start, links-turn, link-missing, chain-ends}
+-- `query::chain` meets its contract. The loop's invariant: a chain was read up to the place of `left`, and its words are in the query,
+-- or something was refused.
+use mathlib.Core.Path.{refl, sym, subst}
+use borrow.Author.Needs.{needs}
+use Rattle.offsets.specs.Cut.{cut}
+use Rattle.lexer.specs.Filling.{wordsOf}
+use Rattle.query.specs.declared.Ops.{Ops}
+use Rattle.query.specs.declared.Parse.{Parse}
+use Rattle.query.specs.Levels.{queryOf, Chained}
+use Rattle.query.proofs.Steps.{left-over}
+use Rattle.query.proofs.Operands.{Linking, linking-starts, chain-fails, chain-ends, linking-turns, linking-less}
 use Rattle.query.proofs.chain.Statement.{statement}
 use Rattle.query.proofs.chain.Tie as tie
 
 abbrev Inv-loop : tie.InvT-loop
-Inv-loop kinds at ops j₀ j = (at < j) × (j ≤ length kinds) × Links kinds at j
+Inv-loop names name-ends s at text₀ ends₀ marks₀ columns₀ ties₀ distances₀ codes₀ count len left₀ text ends marks columns ties distances codes left =
+    Linking (cut names name-ends) s left₀ (queryOf text₀ ends₀ marks₀ columns₀ ties₀ distances₀ (left₀ .count) codes₀ (left₀ .len))
+    left (queryOf text ends marks columns ties distances (left .count) codes (left .len))
 
 abbrev μ-loop : tie.MeasureT-loop
-μ-loop kinds at ops j₀ j = length kinds - j
+μ-loop names name-ends s at text₀ ends₀ marks₀ columns₀ ties₀ distances₀ codes₀ count len left₀ text ends marks columns ties distances codes left = left-over s left
 
-kind-at-requires : tie.Need-kind-at-requires Inv-loop μ-loop
-kind-at-requires c κs = tt
-
-refused-requires : tie.Need-refused-requires Inv-loop μ-loop
-refused-requires c κs = tt
-
-returns : tie.Need-returns Inv-loop μ-loop
-returns c =
-    let a = c .before .before .before .before .args in
-    rw (c .refused .ensures) (chain-missing (a .kinds .now) (a .at) (a .ops) (λ e. c .before .if1 .taken (c .before .before .kind-at .ensures ∙ e)))
-
-add-j : tie.Need-add-j Inv-loop μ-loop
-add-j c = omega arith
+phrase-requires : tie.Need-phrase-requires Inv-loop μ-loop
+phrase-requires c κs = search needs
 
 loop-holds : tie.Need-loop-holds Inv-loop μ-loop
 loop-holds c =
-    let a = c .before .before .before .args in
-    let k = sym (c .before .kind-at .ensures) ∙ c .if1 .left in
-    let i = kind-inside (a .kinds .now) (a .at) 6 k (omega arith) in
-    (omega arith, omega arith, links-start (a .kinds .now) (a .at) k)
+    let a = c .before .before .before .before .before .before .before .before .before .before .args in
+    let f = c .phrase in
+    linking-starts (cut (a .names .now) (a .name-ends .now)) (a .s .now) (a .at) _ (f .result) _ (f .ensures (a .codes .now))
 
-kind-at-requires-2 : tie.Need-kind-at-requires-2 Inv-loop μ-loop
-kind-at-requires-2 c κs = tt
+push-requires : tie.Need-push-requires Inv-loop μ-loop
+push-requires c κs = search needs
 
-add-kind-at : tie.Need-add-kind-at Inv-loop μ-loop
-add-kind-at c = omega arith
+returns : tie.Need-returns Inv-loop μ-loop
+returns c =
+    let a = c .before .before .before .before .before .before .before .before .before .before .before .before .before .before .before .before .before .args in
+    let f = c .before .before .before .before .before .before .before .phrase in
+    let l = c .before .before .before .before .before .before .loop in
+    let names = cut (a .names .now) (a .name-ends .now) in
+    let q = queryOf (a .text .now) (a .ends .now) (a .marks .now) (a .columns .now) (a .ties .now) (a .distances .now) (a .count) (a .codes .now) (a .len) in
+    let x : Parse = record { ok = l .left .ok; at = l .left .at; ahead = l .left .ahead; count = l .left .count; len = c .push .result } in
+    subst
+    (λ (o : Ops). Chained names (a .s .now) (a .at) q x (record { words = wordsOf (l .text) (l .ends) (l .marks) (l .columns) (l .ties) (l .distances) (l .left .count); ops = o }))
+    (sym (c .push .ensures))
+    (chain-ends names (a .s .now) (a .at) q (f .result) _ (f .ensures (a .codes .now)) (l .left) _ (l .inv) (c .before .before .before .before .before .loop-test .taken) (c .before .before .if1 .taken) x refl refl refl)
 
-kind-at-requires-3 : tie.Need-kind-at-requires-3 Inv-loop μ-loop
-kind-at-requires-3 c κs = tt
-
-refused-requires-2 : tie.Need-refused-requires-2 Inv-loop μ-loop
-refused-requires-2 c κs = tt
-
-returns-2 : tie.Need-returns-2 Inv-loop μ-loop
-returns-2 c =
-    let a = c .before .before .before .before .before .before .before .before .before .args in
-    let l = c .before .before .before .before .before .loop in
-    rw (c .refused2 .ensures)
-    (link-missing (a .kinds .now) (a .at) (l .j) (l .inv .2) (a .ops)
-    (sym (c .before .before .before .before .kind-at2 .ensures) ∙ c .before .before .before .if2 .taken)
-    (λ e. c .before .if3 .taken (c .before .before .kind-at3 .ensures ∙ e)))
-
-add-j-2 : tie.Need-add-j-2 Inv-loop μ-loop
-add-j-2 c =
-    let a = c .before .before .before .before .before .before .before .before .args in
-    let l = c .before .before .before .before .loop in
-    let i = kind-inside (a .kinds .now) (l .j) 5 (sym (c .before .before .before .kind-at2 .ensures) ∙ c .before .before .if2 .taken) (omega arith) in
-    omega arith
+phrase-requires-2 : tie.Need-phrase-requires-2 Inv-loop μ-loop
+phrase-requires-2 c κs = search needs
 
 loop-less : tie.Need-loop-less Inv-loop μ-loop
 loop-less c =
-    let a = c .before .before .before .before .before .before .before .before .args in
-    let l = c .before .before .before .before .loop in
-    let i = kind-inside (a .kinds .now) (l .j) 5 (sym (c .before .before .before .kind-at2 .ensures) ∙ c .before .before .if2 .taken) (omega arith) in
-    omega arith
+    let a = c .before .before .before .before .before .before .before .before .before .before .before .before .before .before .before .before .before .before .before .before .before .before .args in
+    let f = c .before .before .before .before .before .before .before .before .before .before .before .before .phrase in
+    let l = c .before .before .before .before .before .before .before .before .before .before .before .loop in
+    let r = c .phrase2 in
+    linking-less (cut (a .names .now) (a .name-ends .now)) (a .s .now) (f .result) _ (l .left) _ (l .inv) (c .before .before .before .before .before .before .before .before .before .before .loop-test .taken) (c .before .before .before .before .before .before .before .if1 .left) (r .result) _ (r .ensures (l .codes))
 
 loop-again : tie.Need-loop-again Inv-loop μ-loop
 loop-again c =
-    let a = c .before .before .before .before .before .before .before .before .args in
-    let l = c .before .before .before .before .loop in
-    let k = sym (c .before .before .before .kind-at2 .ensures) ∙ c .before .before .if2 .taken in
-    let m = sym (c .before .kind-at3 .ensures) ∙ c .if3 .left in
-    let i = kind-inside (a .kinds .now) (l .j + 1) 6 m (omega arith) in
-    (omega arith, omega arith, links-turn (a .kinds .now) (a .at) (l .j) (l .inv .2) k m)
+    let a = c .before .before .before .before .before .before .before .before .before .before .before .before .before .before .before .before .before .before .before .before .before .before .args in
+    let f = c .before .before .before .before .before .before .before .before .before .before .before .before .phrase in
+    let l = c .before .before .before .before .before .before .before .before .before .before .before .loop in
+    let r = c .phrase2 in
+    linking-turns (cut (a .names .now) (a .name-ends .now)) (a .s .now) (f .result) _ (l .left) _ (l .inv) (c .before .before .before .before .before .before .before .before .before .before .loop-test .taken) (c .before .before .before .before .before .before .before .if1 .left) (r .result) _ (r .ensures (l .codes))
 
-push-requires : tie.Need-push-requires Inv-loop μ-loop
-push-requires c κs = tt
-
-returns-3 : tie.Need-returns-3 Inv-loop μ-loop
-returns-3 c =
-    let a = c .before .before .before .before .before .before .before .args in
-    let l = c .before .before .before .loop in
-    rw (c .push .ensures)
-    (chain-ends (a .kinds .now) (a .at) (l .j) (l .inv .2) (a .ops) (λ e. c .before .if2 .left (c .before .before .kind-at2 .ensures ∙ e)) (l .inv .0) (l .inv .1))
+returns-2 : tie.Need-returns-2 Inv-loop μ-loop
+returns-2 c =
+    let a = c .before .before .before .before .before .before .before .before .before .before .before .before .args in
+    let f = c .before .before .phrase in
+    let l = c .before .loop in
+    chain-fails (cut (a .names .now) (a .name-ends .now)) (a .s .now) (a .at) _ (f .result) _ (f .ensures (a .codes .now)) (l .left) _ (l .inv) (c .loop-test .left)
 
 pub chain-spec : {M : Type 1} → statement M
 chain-spec =
@@ -96,18 +77,11 @@ chain-spec =
     (tie.spec
     Inv-loop
     μ-loop
-    kind-at-requires
-    refused-requires
-    returns
-    add-j
+    phrase-requires
     loop-holds
-    kind-at-requires-2
-    add-kind-at
-    kind-at-requires-3
-    refused-requires-2
-    returns-2
-    add-j-2
+    push-requires
+    returns
+    phrase-requires-2
     loop-less
     loop-again
-    push-requires
-    returns-3)
+    returns-2)
