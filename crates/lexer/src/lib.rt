@@ -64,9 +64,6 @@ const TAB: u8 = 9;
 
 const CARRIAGE_RETURN: u8 = 13;
 
-// Bytes from 128 up are no ASCII.
-const ASCII_END: u8 = 128;
-
 // `NEAR/` has 5 bytes, and 1 to 4 digits stand after it.
 const NEAR_SLASH: usize = 5;
 
