@@ -3,12 +3,15 @@ NODES = [b"n%d" % i for i in range(1, 13)]
 OUTCOMES = [b"reply", b"reply late", b"no reply, timeout", b"reply reply", b"late reply no timeout", b"No_Reply", b""]
 WORDS = [b"reply", b"late", b"no", b"timeout", b"re", b"rep", b"nor", b"caf\xc3\xa9"]
 COLUMNS = [b"node", b"sent", b"outcome", b"Outcome", b"NODE"]
+FEW_WORDS = [b"no", b"reply", b"rep"]
 NEARS = [b" NEAR ", b" NEAR/0 ", b" NEAR/1 ", b" NEAR/2 ", b" NEAR/3 ", b" NEAR/12 "]
 OPERATORS = [b" AND ", b" OR ", b" NOT ", b" ", b"  ", b"\t"]
 
 
 def some_outcome(rng):
-    """A probe's outcome, or a longer text in which words stand at many distances."""
+    """A probe's outcome, a text of few words, or a longer one in which words stand at many distances."""
+    if rng.randrange(6) == 0:
+        return b" ".join(rng.choice(FEW_WORDS) for _ in range(rng.randrange(1, 7)))
     if rng.randrange(3) == 0:
         return rng.choice((b" ", b", ", b"-")).join(rng.choice(WORDS) for _ in range(rng.randrange(14)))
     return rng.choice(OUTCOMES)
@@ -49,6 +52,28 @@ def some_chain(rng):
     chain = some_operand(rng, pool)
     while rng.randrange(3) == 0:
         chain += rng.choice(NEARS) + some_operand(rng, pool)
+    return chain
+
+
+def some_alike(rng):
+    """A NEAR chain over few words whose neighbours may end at one position, or overlap and end apart."""
+    words = [rng.choice(FEW_WORDS) for _ in range(rng.randrange(1, 4))]
+    operands = [words]
+    while len(operands) < 2 or rng.randrange(2):
+        kind = rng.randrange(5)
+        if kind == 0:
+            words = words[-1:]
+        elif kind == 1:
+            words = [rng.choice(FEW_WORDS)] + words[-2:]
+        elif kind == 2:
+            words = words[-2:] + [rng.choice(FEW_WORDS)]
+        elif kind == 3:
+            words = words[:-1] + [words[-1].rstrip(b"*")[:rng.randrange(1, 4)] + b"*"]
+        operands.append(words)
+    shown = [words[0] if len(words) == 1 else b'"' + b" ".join(words) + b'"' for words in operands]
+    chain = shown[0]
+    for operand in shown[1:]:
+        chain += rng.choice(NEARS) + operand
     return chain
 
 

@@ -608,7 +608,8 @@ def near_some(starts, length, reached, reached_length, distance):
     `other` stand other - (first + length) positions when the neighbour comes
     after, first - (other + reached_length) when it comes before, and none when
     they share one (both differences are negative then).  Neither may pass the
-    distance, so `other` is near exactly when it is from `low` to `high`.
+    distance, so `other` is near exactly when it is from `low` to `high` and
+    does not end where `first` does (document 02, section 3).
     """
     candidates = sorted(reached)
     near = set()
@@ -616,6 +617,8 @@ def near_some(starts, length, reached, reached_length, distance):
         low = first - distance - reached_length
         high = first + length + distance
         index = bisect_left(candidates, low)
+        if candidates[index:index + 1] == [first + length - reached_length]:
+            index += 1
         if index < len(candidates) and candidates[index] <= high:
             near.add(first)
     return near

@@ -145,9 +145,29 @@ def positions(cases):
         ask_rooms(cases, query, [leaf])
 
 
+def ends(cases):
+    """Neighbours of a NEAR that end at one position are not near; overlapping ones that end apart are (document 02, section 3)."""
+    texts = [
+        b"a", b"a a", b"a b", b"a b b", b"b a b", b"a b x b", b"a b c", b"a b c b", b"c b a b", b"a b c x b c", b"ab", b"a ab", b"ab ab", b"a x x a", b"b c b c",
+        b"a b " + b"x " * 10 + b"b", b"a b " + b"x " * 11 + b"b", b"a a a", b"a b a b",
+    ]
+    leaf = leaf_of([(docid, [text, b"", b"a" if docid == 1 else b""]) for docid, text in enumerate(texts, 1)])
+    operands = [b"a", b"b", b"ab", b"a*", b'"a b"', b'"b c"', b'"c b"', b'"a b c"', b'"a* b"']
+    for first in operands:
+        for second in operands:
+            for near in (b" NEAR ", b" NEAR/0 ", b" NEAR/2 "):
+                ask_rooms(cases, first + near + second, [leaf])
+    for count in range(2, 17):
+        ask_rooms(cases, b" NEAR ".join([b"a"] * count), [leaf])
+        ask_rooms(cases, b" NEAR/0 ".join([b"a"] * count), [leaf])
+    for query in (b"a NEAR b NEAR a", b"a NEAR/0 b NEAR/0 a", b'"a b" NEAR b NEAR "a b"', b"a NEAR a NEAR b", b"node:a NEAR outcome:a", b"outcome:a NEAR outcome:a"):
+        ask_rooms(cases, query, [leaf])
+
+
 def make(cases):
     rng = random.Random(SEED)
     positions(cases)
+    ends(cases)
     indexes(cases, rng)
     shapes(cases)
     faults(cases)

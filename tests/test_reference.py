@@ -480,10 +480,10 @@ def occurrences(row, phrase):
 
 
 def near(one, other, distance):
-    """Whether two occurrences are near, by counting the places between them."""
+    """Whether two occurrences are near, by counting the places between them; they end apart."""
     between = [p for p in range(20)
                if one[2] < p < other[1] or other[2] < p < one[1]]
-    return one[0] == other[0] and len(between) <= distance
+    return one[0] == other[0] and one[2] != other[2] and len(between) <= distance
 
 
 def holds(row, tree):
@@ -500,38 +500,35 @@ def holds(row, tree):
     return {"and": left and right, "or": left or right, "not": left and not right}[tree[0]]
 
 
-def random_phrase(rng, vocabulary, names, letter=None):
-    """A random word or phrase in the syntax, its last word of a given letter."""
-    last = [w for w in vocabulary if letter is None or w[:1] == letter]
+def random_phrase(rng, vocabulary, names):
+    """A random word or phrase in the syntax."""
     if rng.random() < 0.3:
-        chosen = [rng.choice(vocabulary) for _ in range(rng.randrange(0, 2))] + [rng.choice(last)]
+        chosen = [rng.choice(vocabulary) for _ in range(rng.randrange(1, 3))]
         marked = [w + rng.choice([b"", b"", b"*"]) for w in chosen]
         return b'"' + b" ".join(marked) + b'"'
     column = rng.choice(names) + b":" if rng.random() < 0.2 else b""
-    return column + rng.choice(last) + rng.choice([b"", b"", b"*"])
+    return column + rng.choice(vocabulary) + rng.choice([b"", b"", b"*"])
 
 
-def random_chain(rng, vocabulary, names, letters):
-    """A random NEAR chain; with letters, no two operands end in the same word."""
-    count = rng.randrange(2, 4)
-    ends = rng.sample(letters, count) if letters else [None] * count
-    out = random_phrase(rng, vocabulary, names, ends[0])
-    for letter in ends[1:]:
+def random_chain(rng, vocabulary, names):
+    """A random NEAR chain."""
+    out = random_phrase(rng, vocabulary, names)
+    for _ in range(rng.randrange(1, 3)):
         link = rng.choice([b" NEAR ", b" NEAR/%d " % rng.randrange(4)])
-        out += link + random_phrase(rng, vocabulary, names, letter)
+        out += link + random_phrase(rng, vocabulary, names)
     return out
 
 
-def random_query(rng, vocabulary, names, letters, depth=2):
+def random_query(rng, vocabulary, names, depth=2):
     """A random query in the language, 16 words at most for the depths used."""
     parts = []
     for _ in range(rng.choice([1, 1, 2, 3])):
         kind = rng.random()
         if kind < 0.2 and depth:
-            inner = random_query(rng, vocabulary, names, letters, depth - 1)
+            inner = random_query(rng, vocabulary, names, depth - 1)
             parts.append(b"(" + inner + b")")
         elif kind < 0.5:
-            parts.append(random_chain(rng, vocabulary, names, letters))
+            parts.append(random_chain(rng, vocabulary, names))
         else:
             parts.append(random_phrase(rng, vocabulary, names))
     out = parts[0]
@@ -547,7 +544,7 @@ def test_search_exhaustive(rng):
         leaves = [ref.encode_leaf(random_leaf(rng, 3, True)) for _ in range(rng.randrange(0, 5))]
         grid = grid_of(leaves, 3)
         for _ in range(12):
-            query = random_query(rng, [b"a", b"b", b"ab", b"ba"], NAMES, None)
+            query = random_query(rng, [b"a", b"b", b"ab", b"ba"], NAMES)
             tree = ref.read_query(query, NAMES)
             if tree is None:
                 continue
@@ -598,13 +595,21 @@ def test_search():
     check("two columns", found([row], b"node:a NEAR sent:b"), [])
     check("two columns", found([row], b'"x a b"'), [])
     check("one column", found([row], b'"a b"'), [4])
-    check("sums", found([leaf_of(4, b"x x a", b"a", b"")], b'"x x a" NEAR/0 a'), [4])
+    check("sums", found([leaf_of(4, b"x x a a", b"a", b"")], b'"x x a" NEAR/0 a'), [4])
     check("or looser than and", found([leaf_of(4, b"impressive", b"", b"")],
                                       b"sqlite fantastic OR impressive"), [4])
+    twice = leaf_of(1, b"a a b a b", b"", b"")
+    for query, docids in [
+        (b"a NEAR/0 a", [1]), (b"a NEAR a NEAR a", [1]), (b"b NEAR/0 b", []), (b"b NEAR/1 b", [1]),
+        (b'"a b" NEAR/1 b', [1]), (b'"a b" NEAR/0 "a b"', [1]), (b'"a a b" NEAR/0 b', []), (b'"a a b" NEAR/1 b', [1]),
+        (b'"a a b" NEAR/0 "b a"', [1]), (b"a* NEAR/0 a", [1]),
+    ]:
+        check("near %r" % query, found([twice], query), docids)
     line = leaf_of(1, b"a x y b c", b"", b"")
     for query, docids in [
         (b"a NEAR/2 b", [1]), (b"a NEAR/1 b", []), (b"c NEAR/0 b NEAR/2 a", [1]),
-        (b"a NEAR/0 a", [1]), (b"b NEAR b NEAR/0 b", [1]), (b"a NEAR/2 b NEAR/2 a", [1]),
+        (b"a NEAR/0 a", []), (b"b NEAR b NEAR/0 b", []), (b"a NEAR/2 b NEAR/2 a", [1]),
+        (b'"b c" NEAR c', []), (b'c NEAR "b c"', []), (b'"x y" NEAR/0 x', [1]), (b'"a x y" NEAR/0 "x y"', []),
         (b'"x y" NEAR/0 "y b"', [1]), (b'"a x" NEAR/0 "b c"', []), (b'"a x" NEAR/1 "b c"', [1]),
         (b'"a x y b c" NEAR/0 y', [1]), (b'"a* x* y*"', [1]), (b'"a y"', []), (b"c NEAR a", [1]),
         (b"c NEAR/1 x NEAR/0 a", []), (b"c NEAR/2 x NEAR/0 a", [1]),
@@ -733,25 +738,6 @@ def change_table(rng, connection, vocabulary, transactions):
             connection.execute("insert into t(t) values('optimize')")
 
 
-def chains(tree):
-    """All NEAR chains of a tree."""
-    if tree[0] == "near":
-        return [tree]
-    return [] if tree[0] == "phrase" else chains(tree[1]) + chains(tree[2])
-
-
-def same_meaning(tree):
-    """Whether no two operands of a chain can end at the same position.
-
-    SQLite does not take two such occurrences as near; document 01 does.
-    """
-    for _, phrases, _ in chains(tree):
-        letters = [phrase[2][-1][0][:1] for phrase in phrases]
-        if len(set(letters)) < len(letters):
-            return False
-    return True
-
-
 def sqlite_docids(connection, query):
     """The docids that SQLite gives for a query, rising, or None for an error."""
     try:
@@ -786,7 +772,7 @@ def test_sqlite_writer(rng, vocabulary):
         connection.close()
 
 
-def test_sqlite_search(rng, vocabulary, letters):
+def test_sqlite_search(rng, vocabulary):
     """SQLite's leaves are sound, and both list the same docids."""
     compared = listed = only_here = only_there = several = 0
     for round_number in range(24):
@@ -808,13 +794,13 @@ def test_sqlite_search(rng, vocabulary, letters):
             if number % 3 == 0:
                 query = soup(rng, vocabulary)
             else:
-                query = random_query(rng, vocabulary, NAMES, letters)
+                query = random_query(rng, vocabulary, NAMES)
             tree = ref.read_query(query, NAMES)
             theirs = sqlite_docids(connection, query)
             if tree is None or theirs is None:
                 only_here += tree is not None
                 only_there += theirs is not None
-            elif same_meaning(tree):
+            else:
                 check("sqlite %r" % query, found(leaves, query), theirs)
                 compared += 1
                 listed += bool(theirs)
@@ -832,9 +818,8 @@ def test_sqlite(rng):
     if not enhanced:
         return
     vocabulary = [w.encode() for w in ("a", "ab", "abc", "b", "ba", "bac", "c", "ca", "é", "éa")]
-    letters = [b"a", b"b", b"c", "é".encode()[:1]]
     test_sqlite_writer(rng, vocabulary)
-    test_sqlite_search(rng, vocabulary, letters)
+    test_sqlite_search(rng, vocabulary)
 
 
 def main():

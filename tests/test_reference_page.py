@@ -131,15 +131,13 @@ def query_tables(tally, library, box, page):
 def sqlite_tables(tally, library, box, page):
     """The page has just the queries that tests/test_sqlite.py asks of SQLite, and says what the box answers."""
     leaves = [folders.written(box, docid, [b"", b"", text]) for docid, text in ((1, b"x"), (2, b"y x"))]
-    known = (differences.ONLY_SQLITE, 2), (differences.ONLY_BOX, 0), (differences.NEAR_ITSELF, 0)
+    known = (differences.ONLY_SQLITE, 2), (differences.ONLY_BOX, 0)
     for count, (expected, answer) in enumerate(known):
         told = [query for query, _ in page.queries("| query | what it is |", count)]
         tally.check("differences, table %d" % count, sorted(told), sorted(expected))
         for query in told:
-            number, found, _ = search(library, NAMES, leaves, query, SEARCH_ROOM)
+            number, _, _ = search(library, NAMES, leaves, query, SEARCH_ROOM)
             tally.check("difference %.60r" % query, number, answer)
-            if expected is differences.NEAR_ITSELF:
-                tally.check("%r lists docids" % query, found > 0, True)
 
 
 def shapes(tally, box):

@@ -140,16 +140,16 @@ module _ (ties distances columns : List ℕ) (from end : ℕ) (first : Bool) (le
         let t = tie-is nodes ties distances columns words end n xs (at .here) in
         let c : getD columns end 0 ≡ set = columns-is nodes ties distances columns words end n xs (at .here) in
         let s = steps hits row (room .spare-room) in
-        let e : windowOf ties distances from end ≡ record { word = end - 1; back = 1; ahead = 0 } = simp (eq-eqb (getD ties end 0) 1 t) in
+        let e : windowOf ties distances from end ≡ record { word = end - 1; back = 1; ahead = 0; apart = 0 } = simp (eq-eqb (getD ties end 0) 1 t) in
         behind-of nodes (w ∷ ws) ws todo todo hits (StandsAt live docid) from (suc (end - from))
         (simp (le-ltb 1 (getD ties end 0) (omega arith)))
         (omega arith)
         c
         (record { rest = at .rest; here = drop-next nodes end n xs (at .here); begins = at .begins; filled = at .filled })
         s
-        (goes-word leaves starts masks (StandsAt live docid) nodes hits agrees row end n xs (at .here) (getD columns end 0) (record { word = end - 1; back = 1; ahead = 0 }) (sourceOf first set before) put r
+        (goes-word leaves starts masks (StandsAt live docid) nodes hits agrees row end n xs (at .here) (getD columns end 0) (record { word = end - 1; back = 1; ahead = 0; apart = 0 }) (sourceOf first set before) put r
         (subst (λ (x : Window). Steps hits end (getD columns end 0) x (sourceOf first set before) put r) e s)
-        (end - from) ws todo refl refl
+        (end - from) ws todo refl refl refl
         (subst (λ (x : ℕ). InsideColumns x (sourceOf first set before) (candidates (end - 1) hits)) (sym c) within))
     behind nodes [] (l ∷ todo) hits live docid words at row agrees room within = go (l .phrase .words) refl
       where
@@ -165,7 +165,7 @@ module _ (ties distances columns : List ℕ) (from end : ℕ) (first : Bool) (le
             link-here nodes ties distances columns words end (getD columns from 0) l todo at
             ∙ ap (λ (v : List QueryWord). phraseNodes (nears (l .distance)) (l .phrase .columns) v ++ (linkNodes todo ++ at .rest)) q in
             let d : ℕ = distanceAt ties distances end in
-            let t : Window = record { word = end - 1; back = 1 + d; ahead = runEnd 1 ties end - from + d } in
+            let t : Window = record { word = end - 1; back = 1 + d; ahead = runEnd 1 ties end - from + d; apart = runEnd 1 ties end - end - 1 } in
             let s = steps hits row (room .spare-room) in
             let high = is .tie-high in
             let far = is .distance-are in
@@ -184,7 +184,7 @@ module _ (ties distances columns : List ℕ) (from end : ℕ) (first : Bool) (le
             s
             (goes-link leaves starts masks (StandsAt live docid) nodes hits agrees row end n xs here (getD columns end 0) t (sourceOf first (getD columns from 0) before) put r
             (subst (λ (x : Window). Steps hits end (getD columns end 0) x (sourceOf first (getD columns from 0) before) put r) e s)
-            (end - from) l ws todo q (is .columns-are) (omega arith) (omega arith))
+            (end - from) l ws todo q (is .columns-are) (omega arith) (omega arith) (omega arith))
 
     -- the next word is not reached
     pub continues-not : r ≡ false → Continues ties distances columns from end first leaves starts masks before marks false

@@ -122,10 +122,10 @@ module _ (leaves starts masks : List ℕ) (stands : Standing) (nodes : List Node
     (at : ℕ) (n : Node) (rest : List Node) (here : drop at nodes ≡ n ∷ rest) (set : ℕ) (t : Window) (source : ℕ → ℕ → Bool) (marks : List ℕ) (r : Bool)
     (steps : Steps hits at set t source marks r) (size : ℕ) where
   -- the next word of an operand
-  pub goes-word : (ws : List QueryWord) (todo : List Link) → t .back ≡ 1 → t .ahead ≡ 0 → InsideColumns set source (candidates (t .word) hits)
+  pub goes-word : (ws : List QueryWord) (todo : List Link) → t .back ≡ 1 → t .ahead ≡ 0 → t .apart ≡ 0 → InsideColumns set source (candidates (t .word) hits)
       → GoesOn stands (n .word ∷ ws) todo size source (candidates (t .word) hits)
       ↔ GoesOn stands ws todo (suc size) (λ j column. isMarked marks j) (candidates at hits)
-  goes-word ws todo b a inside = (
+  goes-word ws todo b a z inside = (
     λ h.
         let s = h .1 in
         let k = candidate-of leaves starts masks stands nodes hits agrees row at n rest here (s .column) (suc (s .position)) (h .4 .0 .0) in (
@@ -141,6 +141,7 @@ module _ (leaves starts masks : List ℕ) (stands : Standing) (nodes : List Node
               is-source = h .3;
               within-back = omega arith;
               within-ahead = omega arith;
+              apart = λ e. omega arith;
             },
           ),
           (
@@ -168,10 +169,10 @@ module _ (leaves starts masks : List ℕ) (stands : Standing) (nodes : List Node
 
   -- the first word of the next operand
   pub goes-link : (l : Link) (ws : List QueryWord) (todo : List Link) → l .phrase .words ≡ n .word ∷ ws → set ≡ l .phrase .columns
-      → t .back ≡ 1 + distanceOf (l .distance) → t .ahead ≡ size + suc (length ws) + distanceOf (l .distance)
+      → t .back ≡ 1 + distanceOf (l .distance) → t .ahead ≡ size + suc (length ws) + distanceOf (l .distance) → t .apart ≡ length ws
       → GoesOn stands [] (l ∷ todo) size source (candidates (t .word) hits)
       ↔ GoesOn stands ws todo 1 (λ j column. isMarked marks j) (candidates at hits)
-  goes-link l ws todo is columns b a = (
+  goes-link l ws todo is columns b a z = (
     λ h.
         let s = h .1 in
         let chosen = h .4 .1 in
@@ -194,6 +195,7 @@ module _ (leaves starts masks : List ℕ) (stands : Standing) (nodes : List Node
               is-source = subst (λ (x : ℕ). source (h .0) x ≡ true) (near .same-column) (h .3);
               within-back = omega arith;
               within-ahead = omega arith;
+              apart = λ e. near .apart (omega arith);
             },
           ),
           g .1,
@@ -216,7 +218,7 @@ module _ (leaves starts masks : List ℕ) (stands : Standing) (nodes : List Node
             (
               beginning stands (l .phrase) (n .word) ws is todo (s .column) (s .position),
               g .0,
-              record { same-column = refl; close = omega arith },
+              record { same-column = refl; close = omega arith; apart = λ e. m .apart (omega arith) },
               g .1,
             ),
           ),

@@ -17,10 +17,10 @@ use Rattle.row.specs.declared.Found.{Found}
 use Rattle.row.specs.declared.Found.the-variants.{At, Done}
 use Rattle.chain.specs.Chains.{maxCandidates, bitWords}
 use Rattle.chain.specs.Keys.{keyOf, Ordered, SomeKey, Inserts}
-use Rattle.chain.specs.Reaching.{oldOf, Nth, sourceOf, NearSource, Steps, InWindow, ReachedBy, Marks, Pushes}
+use Rattle.chain.specs.Reaching.{oldOf, Nth, sourceOf, NearSource, Steps, limitOf, leftOut, InWindow, ReachedBy, Marks, Pushes}
 use Rattle.chain.specs.declared.Window.{Window}
 use Rattle.chain.proofs.Keys.{some-none}
-use Rattle.chain.proofs.Windows.{limitOf, key-in}
+use Rattle.chain.proofs.Windows.{KeyIn, key-in}
 use Rattle.chain.proofs.Walks.{WalkingRow, walking-first, walking-done, walking-nth, walking-room, walking-next, nth-same, nth-inside}
 
 -- ---- one key more
@@ -64,6 +64,34 @@ pub source-same : (first : Bool) (set : ℕ) (before room : List ℕ) (j column 
 source-same first set before room j column r e h same =
     e ∙ ap (λ (n : ℕ). pick first (contains set column) (contains n (j % 64))) (same (j / 64) (omega arith))
 
+-- with no key none lies in a window
+window-empty {ℓ} : {X : Type ℓ} (t : Window) (keys : List ℕ) (column position : ℕ) → InWindow t keys 0 column position → X
+window-empty t keys column position h = ⊎-elim (some-none keys _ _) (some-none keys _ _) h
+
+-- with one key more, it or one of the others does
+module _ (t : Window) (keys : List ℕ) (count : ℕ) (wanted : Bool) (columns c p : ℕ) (put : List ℕ) (more : ℕ) (pushes : Pushes keys count wanted columns c p put more) (column position : ℕ) where
+  abbrev low : ℕ
+  low = keyOf column (position - t .back)
+
+  abbrev out : ℕ
+  out = keyOf column (leftOut (limitOf (position + t .ahead)) (position + t .apart))
+
+  abbrev limit : ℕ
+  limit = keyOf column (limitOf (position + t .ahead))
+
+  abbrev New : Type 0
+  New = (wanted ≡ true) × (contains columns c ≡ true) × KeyIn t column position (keyOf c p)
+
+  window-pushed : InWindow t put more column position ↔ (InWindow t keys count column position ⊎ New)
+  window-pushed = (
+    ⊎-elim
+        (λ x. ⊎-elim (λ y. inl (inl y)) (λ y. inr (y .0, y .1, inl (y .2, y .3))) (pushes .has low out .0 x))
+        (λ x. ⊎-elim (λ y. inl (inr y)) (λ y. inr (y .0, y .1, inr (y .2, y .3))) (pushes .has (out + 1) limit .0 x)),
+    ⊎-elim
+        (⊎-elim (λ y. inl (pushes .has low out .1 (inl y))) (λ y. inr (pushes .has (out + 1) limit .1 (inl y))))
+        (λ x. ⊎-elim (λ y. inl (pushes .has low out .1 (inr (x .0, x .1, y .0, y .1)))) (λ y. inr (pushes .has (out + 1) limit .1 (inr (x .0, x .1, y .0, y .1)))) (x .2)),
+  )
+
 -- a source that was passed lies in the window at a position
 abbrev NearPassed : (ℕ → ℕ → Bool) → List Hit → Window → ℕ → ℕ → ℕ → Type 0
 NearPassed source hits t j column position = (m : NearSource source (candidates (t .word) hits) t column position) × (m .number < j)
@@ -80,7 +108,7 @@ module _ (leaves starts masks : List ℕ) (i columns : ℕ) (t : Window) (source
       record {
         walk = walking-first leaves starts masks (t .word) hits r f;
         tell = λ k column position n s. (
-          λ h. ⊎-elim (λ (x : false ≡ true). false-not-true x) (λ x. some-none keys _ _ (x .1)) h,
+          λ h. ⊎-elim (λ (x : false ≡ true). false-not-true x) (λ x. window-empty t keys column position (x .1)) h,
           λ h. absurd (omega (arith, h .1 .1)),
         );
       }
@@ -96,7 +124,7 @@ module _ (leaves starts masks : List ℕ) (i columns : ℕ) (t : Window) (source
           tell = λ k column position q small.
               let x = n .tell k column position q small in
               let y = m .marks-are k column position q in (
-                λ h. ⊎-elim (λ e. x .0 (y .0 e)) (λ z. some-none keys _ _ (z .1)) h,
+                λ h. ⊎-elim (λ e. x .0 (y .0 e)) (λ z. window-empty t keys column position (z .1)) h,
                 λ h. inl (y .1 (x .1 h)),
               );
         }
@@ -143,10 +171,10 @@ module _ (leaves starts masks : List ℕ) (i columns : ℕ) (t : Window) (source
         passed-of column position small a old h =
             ⊎-elim
             (λ (x : InWindow t keys count column position). let y = old (a, x) in (y .0, omega (arith, y .1)))
-            (λ x. new (x .0) (key-in (t .back) (t .ahead) column position (p .column) (p .position) small low .0 (x .2, x .3)))
-            (pushes .has (keyOf column (position - t .back)) (keyOf column (limitOf (position + t .ahead))) .0 h)
+            (λ x. new (x .0) (key-in t column position (p .column) (p .position) small low .0 (x .2)))
+            (window-pushed t keys count wanted columns (p .column) (p .position) put more pushes column position .0 h)
           where
-            new : wanted ≡ true → (p .column ≡ column) × (position ≤ p .position + t .back) × (p .position < position + t .ahead)
+            new : wanted ≡ true → (p .column ≡ column) × (position ≤ p .position + t .back) × (p .position < position + t .ahead) × (p .position ≡ position + t .apart → ⊥)
                 → NearPassed source hits t (j + 1) column position
             new w x = (
               record {
@@ -156,6 +184,7 @@ module _ (leaves starts masks : List ℕ) (i columns : ℕ) (t : Window) (source
                 is-source = ap (source j) (sym (x .0)) ∙ sym is ∙ w;
                 within-back = x .1;
                 within-ahead = x .2;
+                apart = x .3;
               },
               omega arith,
             )
@@ -170,14 +199,13 @@ module _ (leaves starts masks : List ℕ) (i columns : ℕ) (t : Window) (source
             let c : column ≡ p .column = ap (λ (x : Spot). x .column) s in
             let f : m .place ≡ p .position = ap (λ (x : Spot). x .position) s in
             let k =
-            key-in (t .back) (t .ahead) column position (p .column) (p .position) small low .1
-            (sym c, omega (arith, m .within-back), omega (arith, m .within-ahead)) in
-            pushes .has (keyOf column (position - t .back)) (keyOf column (limitOf (position + t .ahead))) .1
+            key-in t column position (p .column) (p .position) small low .1
+            (sym c, omega (arith, m .within-back), omega (arith, m .within-ahead), λ e. m .apart (f ∙ e)) in
+            window-pushed t keys count wanted columns (p .column) (p .position) put more pushes column position .1
             (inr (
               is ∙ ap₂ source (sym q) (sym c) ∙ m .is-source,
               subst (λ (x : ℕ). contains columns x ≡ true) c a,
-              k .0,
-              k .1,
+              k,
             ))
 
         pub stepping-push : (x : Found) → ((ahead : List Spot) → AheadOf leaves starts masks (t .word) p ahead → Finds leaves starts masks (t .word) ahead x)
@@ -197,7 +225,7 @@ module _ (leaves starts masks : List ℕ) (i columns : ℕ) (t : Window) (source
                         (λ l.
                         ⊎-elim
                         (λ (o : oldOf fresh marks k ≡ true). inl o)
-                        (λ o. inr (o .0, pushes .has (keyOf column (position - t .back)) (keyOf column (limitOf (position + t .ahead))) .1 (inl (o .1))))
+                        (λ o. inr (o .0, window-pushed t keys count wanted columns (p .column) (p .position) put more pushes column position .1 (inl (o .1))))
                         (y .1 (h .0, (h .1 .0, l))))
                         (λ l. inr (h .0, of-passed column position small (h .0) (h .1 .0) (omega (arith, h .1 .1)))),
                   );

@@ -73,6 +73,7 @@ pub record NearSource (source : ℕ → ℕ → Bool) (cs : List Spot) (t : Wind
   pub is-source : source number column ≡ true
   pub within-back : position ≤ place + t .back
   pub within-ahead : place < position + t .ahead
+  pub apart : place ≡ position + t .apart → ⊥
 
 -- which candidates of the word number i a step marks
 abbrev pub Steps : List Hit → ℕ → ℕ → Window → (ℕ → ℕ → Bool) → List ℕ → Bool → Type 0
@@ -83,13 +84,23 @@ Steps hits i columns t source marks r =
 pub record Bounded (t : Window) : Type 0 where
   pub back-small : t .back < 2 ^ 63 + 65537
   pub ahead-small : t .ahead < 2 ^ 63 + 65537
+  pub apart-small : t .apart < 2 ^ 63 + 65537
 
 -- ---- some sources at a time, as keys
 
--- the window at a position, in keys
+-- a window ends with its column
+abbrev pub limitOf : ℕ → ℕ
+limitOf n = pick (ltb columnSize n) columnSize n
+
+-- the place that is left out of a window, or the window's end
+abbrev pub leftOut : ℕ → ℕ → ℕ
+leftOut limit apart = pick (ltb limit apart) limit apart
+
+-- the window at a position, in keys: before the place that is left out, and after it
 abbrev pub InWindow : Window → List ℕ → ℕ → ℕ → ℕ → Type 0
 InWindow t keys count column position =
-    SomeKey keys count (keyOf column (position - t .back)) (keyOf column (pick (ltb columnSize (position + t .ahead)) columnSize (position + t .ahead)))
+    SomeKey keys count (keyOf column (position - t .back)) (keyOf column (leftOut (limitOf (position + t .ahead)) (position + t .apart)))
+    ⊎ SomeKey keys count (keyOf column (leftOut (limitOf (position + t .ahead)) (position + t .apart)) + 1) (keyOf column (limitOf (position + t .ahead)))
 
 -- a candidate was reached before, or is by one of the keys
 abbrev pub ReachedBy : Bool → ℕ → Window → List ℕ → ℕ → ℕ → ℕ → Type 0
@@ -117,8 +128,13 @@ distanceAt ties distances at = pick (eqb (getD ties at 0) (tieNumber (nears bare
 abbrev pub windowOf : List ℕ → List ℕ → ℕ → ℕ → Window
 windowOf ties distances from end =
     pick (eqb (getD ties end 0) 1)
-    (record { word = end - 1; back = 1; ahead = 0 })
-    (record { word = end - 1; back = 1 + distanceAt ties distances end; ahead = runEnd 1 ties end - from + distanceAt ties distances end })
+    (record { word = end - 1; back = 1; ahead = 0; apart = 0 })
+    (record {
+      word = end - 1;
+      back = 1 + distanceAt ties distances end;
+      ahead = runEnd 1 ties end - from + distanceAt ties distances end;
+      apart = runEnd 1 ties end - end - 1;
+    })
 
 -- where the operand of the word `end` begins
 abbrev pub operandStart : List ℕ → ℕ → ℕ → ℕ

@@ -48,12 +48,14 @@ const BARE_DISTANCE: u64 = 10;
 const COLUMN_SIZE: u64 = 0x1_0000_0000;
 
 // Where a word may stand beside the one before it in its chain: at `position`, where that one stands at a `place` with
-// position <= place + back and place < position + ahead.
+// position <= place + back, place < position + ahead and place != position + apart.
 struct Window {
     // The number of the word before.
     word: usize,
     back: u64,
     ahead: u64,
+    // After NEAR, both operands would end at that place: two occurrences that end alike are not near.
+    apart: u64,
 }
 
 // Whether candidate `j` is marked.
@@ -253,7 +255,18 @@ fn in_window(tie: Window, keys: &[u64], count: usize, column: u64, position: u64
     if COLUMN_SIZE < limit {
         limit = COLUMN_SIZE;
     }
-    some_key(keys, count, base + low, base + limit)
+    let mut apart = position + tie.apart;
+    if limit < apart {
+        apart = limit;
+    }
+    // Most windows have no key: the place that is left out is asked for only where there is one.
+    if !some_key(keys, count, base + low, base + limit) {
+        return false;
+    }
+    if some_key(keys, count, base + low, base + apart) {
+        return true;
+    }
+    some_key(keys, count, base + apart + 1, base + limit)
 }
 
 // Whether a candidate was reached before, or is by one of the keys.
@@ -383,6 +396,7 @@ fn window_at(ties: &[u8], distances: &[u16], from: usize, end: usize) -> Window
             word: end - 1,
             back: 1,
             ahead: 0,
+            apart: 0,
         };
     }
     let n = distance(ties, distances, end);
@@ -391,6 +405,7 @@ fn window_at(ties: &[u8], distances: &[u16], from: usize, end: usize) -> Window
         word: end - 1,
         back: 1 + n,
         ahead: (next - from) as u64 + n,
+        apart: (next - end - 1) as u64,
     }
 }
 

@@ -3,7 +3,7 @@
 use Prim.Native.Nat.{ℕ}
 use mathlib.Core.List.{List, [], _∷_}
 
--- an example: its number in document 01, and what it claims
+-- an example: its number in document 01 (one of document 02 is counted on), and what it claims
 pub record Example : Type 1 where
   pub number : ℕ
   pub claim : Type 0

@@ -75,10 +75,12 @@ abbrev pub distanceOf : Distance → ℕ
 distanceOf bare = bareDistance
 distanceOf (written n) = n
 
--- "all in one column, with neighbours in the chain having at most N positions strictly between them, in either order"
+-- "all in one column, with neighbours in the chain having at most N positions strictly between them, in either order";
+-- "Two occurrences are near only if they end at different positions" (document 02, §3)
 pub record Nearby (d : Distance) (a b : Occurrence) : Type 0 where
   pub same-column : a .column ≡ b .column
   pub close : between a b ≤ distanceOf d
+  pub apart : a .last ≡ b .last → ⊥
 
 -- one occurrence is chosen for each further operand, near the one chosen before it
 abbrev pub Chosen : Standing → Occurrence → List Link → Type 0

@@ -1,7 +1,7 @@
--- The marked example P15 holds, and with it all that document 01 marks, P1 to P15.
+-- The marked example P15 and that of document 02, §3, hold, and with them all that are marked.
 use Prim.Native.Nat.{ℕ, zero, suc, _≤_}
 use native.Mathlib.Omega.{arith}
-use mathlib.Core.Path.{_≡_, refl, sym, ap₂, subst}
+use mathlib.Core.Path.{_≡_, refl, sym, ap₂, subst, _∙_}
 use mathlib.Core.Bool.{true, false}
 use mathlib.Core.Logic.{inl, ⊎-elim}
 use mathlib.Core.List.{List, [], _∷_, _++_, append-nil, List·Memᴰ, List·Memᴰ·head, List·Memᴰ·not-nil, List·Memᴰ·eq-of-singleton}
@@ -21,29 +21,34 @@ use Rattle.tokenizer.proofs.Examples as tokenizer
 use Rattle.tokenizer.specs.Marked as tokenizer-spec
 use Rattle.doclist.proofs.Examples as doclist
 use Rattle.doclist.specs.Marked as doclist-spec
-use Rattle.lexer.specs.Token.{Token, NEAR, operand, written, anyColumn, maxQuery}
-use Rattle.lexer.specs.Tokens.{isSpace, isRunByte, each, stops, isOperator, decimal, decimalFrom, bytesNEARSlash, Stretch, oneWord, RunToken, written-run, word-run, Tokens, end, space, run}
+use Rattle.lexer.specs.Token.{Token, Distance, bare, NEAR, operand, written, anyColumn, maxQuery}
+use Rattle.lexer.specs.Tokens.{isSpace, isRunByte, each, stops, isOperator, decimal, decimalFrom, bytesNEAR, bytesNEARSlash, Stretch, oneWord, RunToken, near-run, written-run, word-run, Tokens, end, space, run}
+use Rattle.query.specs.Tree.{leaf}
 use Rattle.query.specs.Grammar.{Reads, chain, single}
 use Rattle.query.proofs.Examples as query
 use Rattle.query.specs.Marked as query-spec
 use Rattle.meaning.specs.Satisfies.{StandsAt, Occurrence, Occurs}
 use Rattle.document.proofs.Examples as document
 use Rattle.document.specs.Marked as document-spec
-use Rattle.search.specs.Marked.{a, b, text, liveIn, nearText, word, nearTree, marked, allMarked}
+use Rattle.search.specs.Marked.{a, b, text, liveIn, nearText, word, bareText, marked, allMarked}
 
 -- ---- where the words stand
 
--- a word that stands once, in column 0
-abbrev Once : List ℕ → ℕ → Type 0
-Once w position = (column : ℕ) → liveIn text w 7 column ≡ pick (eqb 0 column) (position ∷ []) []
+-- a word that stands once in a text, in column 0
+abbrev Once : List ℕ → List ℕ → ℕ → Type 0
+Once s w position = (column : ℕ) → liveIn s w 7 column ≡ pick (eqb 0 column) (position ∷ []) []
 
-a-stands : Once a 0
+a-stands : Once text a 0
 unfolding text span isWord isSeparator fold wordStart wordEnd placesIn same
 a-stands column = refl
 
-b-stands : Once b 2
+b-stands : Once text b 2
 unfolding text span isWord isSeparator fold wordStart wordEnd placesIn same
 b-stands column = refl
+
+a-alone : Once a a 0
+unfolding span isWord isSeparator fold wordStart wordEnd placesIn same
+a-alone column = refl
 
 member-once : (p q column : ℕ) → List·Memᴰ p (pick (eqb 0 column) (q ∷ []) []) → (0 ≡ column) × (p ≡ q)
 member-once p q column m =
@@ -51,9 +56,9 @@ member-once p q column m =
     (λ e. (e, List·Memᴰ·eq-of-singleton (subst (λ t. List·Memᴰ p (pick t (q ∷ []) [])) (eq-eqb 0 column e) m)))
     (λ n. absurd (List·Memᴰ·not-nil (subst (λ t. List·Memᴰ p (pick t (q ∷ []) [])) (ne-eqb 0 column n) m)))
 
-module _ (w : List ℕ) (q : ℕ) (once : Once w q) where
+module _ (s w : List ℕ) (q : ℕ) (once : Once s w q) where
   -- it occurs there
-  occurs : Occurs (StandsAt (liveIn text) 7) (word w) (record { column = 0; first = q; last = q })
+  occurs : Occurs (StandsAt (liveIn s) 7) (word w) (record { column = 0; first = q; last = q })
   occurs =
       record {
         allowed = refl;
@@ -62,11 +67,11 @@ module _ (w : List ℕ) (q : ℕ) (once : Once w q) where
       }
 
   -- and nowhere else
-  occurs-only : (o : Occurrence) → Occurs (StandsAt (liveIn text) 7) (word w) o → (o .first ≡ q) × (o .last ≡ q)
+  occurs-only : (o : Occurrence) → Occurs (StandsAt (liveIn s) 7) (word w) o → (o .first ≡ q) × (o .last ≡ q)
   occurs-only o h =
-      let s = h .consecutive .0 in
-      let e : s .0 ≡ w = ⊎-elim (λ m. m .1) (λ m. false-not-true (m .0)) (s .1) in
-      let k = subst (λ v. List·Memᴰ (o .first) (liveIn text v 7 (o .column))) e (s .2) in
+      let x = h .consecutive .0 in
+      let e : x .0 ≡ w = ⊎-elim (λ m. m .1) (λ m. false-not-true (m .0)) (x .1) in
+      let k = subst (λ v. List·Memᴰ (o .first) (liveIn s v 7 (o .column))) e (x .2) in
       let m = member-once (o .first) q (o .column) (subst (List·Memᴰ (o .first)) (once (o .column)) k) in
       (m .1, let l = h .ends in let f = m .1 in omega arith)
 
@@ -107,35 +112,54 @@ near-ba names =
     (space refl
     (word-token names a [] [] (record { some = omega arith; passes = refl }) (record { some = omega arith; passes = refl }) refl refl end))))
 
+near-aa : (names : List (List ℕ)) → Tokens names (bareText a a) (oneWord a false anyColumn ∷ NEAR bare ∷ oneWord a false anyColumn ∷ [])
+unfolding isSpace isRunByte each stops isOperator isWord same
+near-aa names =
+    word-token names a (32 ∷ 78 ∷ 69 ∷ 65 ∷ 82 ∷ 32 ∷ a) _ (record { some = omega arith; passes = refl }) (record { some = omega arith; passes = refl }) refl refl
+    (space refl
+    (run {r = bytesNEAR} (record { some = omega arith; passes = refl }) refl near-run
+    (space refl
+    (word-token names a [] [] (record { some = omega arith; passes = refl }) (record { some = omega arith; passes = refl }) refl refl end))))
+
 -- a chain alone
-chain-reads : (names : List (List ℕ)) (s : List ℕ) (v w : List ℕ) (n : ℕ) → length s ≤ maxQuery → length v ≡ 1 → length w ≡ 1
-    → Tokens names s (operand (word v) ∷ NEAR (written n) ∷ operand (word w) ∷ []) → Reads names s (nearTree v n w)
-chain-reads names s v w n l e f t =
+chain-reads : (names : List (List ℕ)) (s : List ℕ) (v w : List ℕ) (d : Distance) → length s ≤ maxQuery → length v ≡ 1 → length w ≡ 1
+    → Tokens names s (operand (word v) ∷ NEAR d ∷ operand (word w) ∷ []) → Reads names s (leaf (record { first = word v; links = record { distance = d; phrase = word w } ∷ [] }))
+chain-reads names s v w d l e f t =
     record {
-      tokens = operand (word v) ∷ NEAR (written n) ∷ operand (word w) ∷ [];
+      tokens = operand (word v) ∷ NEAR d ∷ operand (word w) ∷ [];
       split = record { reads = t; size = l; words = record { few = omega arith; short = λ i _. subst (λ (k : List ℕ). getD k i 0 ≤ maxWord) (ap₂ (λ (x y : ℕ). x ∷ y ∷ []) (sym e) (sym f)) (short-words i) } };
       derived = single (single (single (chain _)));
     }
 
--- ---- P15
+-- ---- the claims
 
 pub examples : AllHold marked
 unfolding fold
 examples = (
   (
-    λ names. chain-reads names (nearText a 48 b) a b 0 (omega arith) refl refl (near-ab names),
+    λ names. chain-reads names (nearText a 48 b) a b (written 0) (omega arith) refl refl (near-ab names),
     λ h.
-        let f = occurs-only a 0 a-stands (h .0) (h .1) in
-        let g = occurs-only b 2 b-stands (h .2 .0) (h .2 .1) in
+        let f = occurs-only text a 0 a-stands (h .0) (h .1) in
+        let g = occurs-only text b 2 b-stands (h .2 .0) (h .2 .1) in
         let n = h .2 .2 .close in
         absurd (omega arith),
-    λ names. chain-reads names (nearText b 49 a) b a 1 (omega arith) refl refl (near-ba names),
-    (record { column = 0; first = 2; last = 2 }, occurs b 2 b-stands, (record { column = 0; first = 0; last = 0 }, occurs a 0 a-stands, record { same-column = refl; close = omega arith }, tt)),
+    λ names. chain-reads names (nearText b 49 a) b a (written 1) (omega arith) refl refl (near-ba names),
+    (
+      record { column = 0; first = 2; last = 2 },
+      occurs text b 2 b-stands,
+      (record { column = 0; first = 0; last = 0 }, occurs text a 0 a-stands, record { same-column = refl; close = omega arith; apart = λ e. omega arith }, tt),
+    ),
   ),
-  tt,
+  (
+    (
+      λ names. chain-reads names (bareText a a) a a bare (omega arith) refl refl (near-aa names),
+      λ h. h .2 .2 .apart (occurs-only a a 0 a-alone (h .0) (h .1) .1 ∙ sym (occurs-only a a 0 a-alone (h .2 .0) (h .2 .1) .1)),
+    ),
+    tt,
+  ),
 )
 
--- ---- P1 to P15
+-- ---- all of them
 
 abbrev from-query : List Example
 from-query = query-spec.marked ++ marked

@@ -1,5 +1,5 @@
--- Document 01's marked example of a search: P15, text `a x b`: `a NEAR/0 b` fails, `b NEAR/1 a` holds; and all marked
--- examples, P1 to P15, in one list.
+-- Document 01's marked example of a search: P15, text `a x b`: `a NEAR/0 b` fails, `b NEAR/1 a` holds; document 02's, of §3:
+-- `a NEAR a` over the text `a` fails; and all marked examples in one list.
 use Prim.Native.Nat.{ℕ}
 use mathlib.Core.Bool.{false}
 use mathlib.Core.List.{List, [], _∷_, _++_}
@@ -7,7 +7,7 @@ use Rattle.common.specs.Marked.{Example}
 use Rattle.varint.specs.Marked as varint
 use Rattle.tokenizer.specs.Marked as tokenizer
 use Rattle.doclist.specs.Marked as doclist
-use Rattle.lexer.specs.Token.{Phrase, written, anyColumn}
+use Rattle.lexer.specs.Token.{Phrase, bare, written, anyColumn}
 use Rattle.query.specs.Tree.{Tree, leaf}
 use Rattle.query.specs.Grammar.{Reads}
 use Rattle.query.specs.Marked as query
@@ -43,6 +43,17 @@ word w = record { words = record { bytes = w; star = false } ∷ []; columns = a
 abbrev pub nearTree : List ℕ → ℕ → List ℕ → Tree
 nearTree v n w = leaf (record { first = word v; links = record { distance = written n; phrase = word w } ∷ [] })
 
+-- ---- document 02, §3, counted on after P15; the text `a` is the word
+
+-- `v NEAR w`
+abbrev pub bareText : List ℕ → List ℕ → List ℕ
+bareText v w = v ++ 32 ∷ 78 ∷ 69 ∷ 65 ∷ 82 ∷ 32 ∷ w
+
+abbrev pub bareTree : List ℕ → List ℕ → Tree
+bareTree v w = leaf (record { first = word v; links = record { distance = bare; phrase = word w } ∷ [] })
+
+-- ---- the claims
+
 abbrev pub marked : List Example
 marked =
     record {
@@ -53,9 +64,13 @@ marked =
           × ((names : List (List ℕ)) → Reads names (nearText b 49 a) (nearTree b 1 a))
           × Satisfies (liveIn text) 7 (nearTree b 1 a);
     }
+    ∷ record {
+      number = 16;
+      claim = ((names : List (List ℕ)) → Reads names (bareText a a) (bareTree a a)) × (Satisfies (liveIn a) 7 (bareTree a a) → ⊥);
+    }
     ∷ []
 
--- ---- P1 to P15
+-- ---- all of them
 
 abbrev pub allMarked : List Example
 allMarked = varint.marked ++ (doclist.marked ++ (document.marked ++ (tokenizer.marked ++ (query.marked ++ marked))))

@@ -14,7 +14,7 @@ sub-t10 : tie.Need-sub-t10
 sub-t10 c = search needs
 
 returns : tie.Need-returns
-returns c = (simp (eq-eqb _ _ (c .if1 .taken)), record { back-small = omega arith; ahead-small = omega arith })
+returns c = (simp (eq-eqb _ _ (c .if1 .taken)), record { back-small = omega arith; ahead-small = omega arith; apart-small = omega arith })
 
 distance-requires : tie.Need-distance-requires
 distance-requires c κs = search needs
@@ -43,6 +43,20 @@ add-t15 c =
     let s = c .before .before .before .before .before .before .good .0 .1 in
     omega (arith, c .before .distance .ensures .1)
 
+sub-t16 : tie.Need-sub-t16
+sub-t16 c =
+    let a = c .before .before .before .before .before .before .args in
+    let b = run-bounds 1 (a .ties .now) (a .end) (c .before .before .before .before .before .before .pre .1) in
+    let e = c .run-end .ensures in
+    omega (arith, c .before .before .before .before .before .before .pre .0)
+
+sub-t17 : tie.Need-sub-t17
+sub-t17 c =
+    let a = c .before .before .before .before .before .before .args in
+    let b = run-bounds 1 (a .ties .now) (a .end) (c .before .before .before .before .before .before .pre .1) in
+    let e = c .run-end .ensures in
+    omega (arith, c .before .before .before .before .before .before .pre .0)
+
 returns-2 : tie.Need-returns-2
 returns-2 c =
     let a = c .before .before .before .before .before .before .args in
@@ -50,7 +64,7 @@ returns-2 c =
     let e = c .run-end .ensures in
     let s = c .before .before .before .before .before .before .good .0 .1 in (
       window-near (a .ties .now) (a .distances .now) (a .from) (a .end) _ _ (c .before .before .if1 .left) (c .before .distance .ensures .0) e,
-      record { back-small = omega (arith, c .before .distance .ensures .1); ahead-small = omega (arith, c .before .distance .ensures .1) },
+      record { back-small = omega (arith, c .before .distance .ensures .1); ahead-small = omega (arith, c .before .distance .ensures .1); apart-small = omega arith },
     )
 
 pub window-at-spec : {M : Type 1} → statement M
@@ -66,4 +80,6 @@ window-at-spec =
     add-t12
     sub-t13
     add-t15
+    sub-t16
+    sub-t17
     returns-2)
