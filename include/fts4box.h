@@ -34,8 +34,8 @@ extern "C" {
 #endif
 
 /* A change of a signature or of what a call answers raises the version. The number is 100 times its first part plus the second. */
-#define FTS4BOX_VERSION "1.1"
-#define FTS4BOX_VERSION_NUMBER 101
+#define FTS4BOX_VERSION "1.2"
+#define FTS4BOX_VERSION_NUMBER 102
 
 /* The bounds: what is over one is refused. */
 #define FTS4_MAX_QUERY 512      /* bytes of a query */

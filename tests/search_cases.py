@@ -135,10 +135,11 @@ def positions(cases):
     rows = [
         (1, [b"a x b", b"", b""]), (2, [b"b x a", b"", b""]), (3, [b"a", b"b", b""]), (4, [b"a b", b"", b""]), (5, [b"a x x b", b"a b", b""]),
         (6, [b"a a a", b"", b"b"]), (7, [b"a " + b"x " * 10 + b"b", b"", b""]), (8, [b"a " + b"x " * 11 + b"b", b"", b""]), (9, [b"b a b", b"", b"ab abc"]),
+        (10, [b"a x x x b", b"", b""]), (11, [b"b x x x x a", b"", b""]),
     ]
     leaf = leaf_of(rows)
     for query in (
-        b"a NEAR/0 b", b"b NEAR/1 a", b"b NEAR/0 a", b"a NEAR b", b"a NEAR/2 b", b"a NEAR/10 b", b"a NEAR/11 b", b'"a b"', b'"a x b"', b'"b a"', b"a NEAR/0 a",
+        b"a NEAR/0 b", b"b NEAR/1 a", b"b NEAR/0 a", b"a NEAR b", b"b NEAR a", b"a NEAR/2 b", b"a NEAR/3 b", b"a NEAR/4 b", b"a NEAR/10 b", b"a NEAR/11 b", b'"a b"', b'"a x b"', b'"b a"', b"a NEAR/0 a",
         b"a NEAR b NEAR a", b"b NEAR/0 a NEAR/0 b", b'"a x" NEAR/0 b', b'b NEAR/0 "a b"', b'"a b" NEAR/0 b', b"node:a NEAR sent:b", b"node:a sent:b", b"sent:a NEAR sent:b",
         b"ab*", b"a*", b'"ab ab*"', b"a* NEAR/0 b*", b"x NEAR/0 x", b"a NOT b", b"b NOT a", b"outcome:a*", b'"a* b"', b"a NEAR/1 x NEAR/1 b",
     ):

@@ -3,8 +3,12 @@
 1. SQLite accepts more (`ONLY_SQLITE`). The box refuses these, exactly where document 01 says so; that is compared with the
    second program.
 2. SQLite refuses an expression tree more than 12 deep (`ONLY_BOX`); long chains of AND or OR it makes flat first.
-3. `^` before a word is the box's refusal and SQLite's mark for the first word of a column: generated queries have none.
+3. A NEAR without a number is 3 here and 10 in SQLite (`BARE_NEAR`): SQLite is asked with the distance written.
+4. `^` before a word is the box's refusal and SQLite's mark for the first word of a column: generated queries have none.
 """
+import re
+
+import reference
 
 # Queries that SQLite accepts, on a table with the columns node, sent and outcome, and the box refuses by number 2.
 ONLY_SQLITE = [
@@ -22,7 +26,12 @@ ONLY_SQLITE = [
 # Queries that the box accepts and SQLite refuses.
 ONLY_BOX = [b" NOT ".join([b"x"] * 13), b" NEAR ".join([b"x", b"y"] * 7)]
 
+# A text, and queries that SQLite finds in it and the box does not, until their distance is written.
+BARE_NEAR = (b"x a b c d y", [b"x NEAR y", b"y NEAR x", b'"x a" NEAR "d y" NEAR/4 x NEAR y', b'(x NEAR"y")'])
+
 SQLITE_DEPTH = 12
+
+PIECE = re.compile(rb'"[^"]*"|[^()"%s]+' % reference.WHITE_SPACE)
 
 
 def height(tree):
@@ -35,3 +44,8 @@ def may_be_too_deep(tree):
     """Whether SQLite may refuse a query."""
     return height(tree) > SQLITE_DEPTH
 
+
+def written_out(query):
+    """The query with the distance of each NEAR written."""
+    near = b"NEAR/%d" % reference.DEFAULT_DISTANCE
+    return PIECE.sub(lambda piece: near if piece[0] == b"NEAR" else piece[0], query)

@@ -14,6 +14,7 @@ import sqlite3
 import time
 
 import reference as ref
+import sqlite_differences as differences
 
 SEED = 20240607
 NAMES = [b"node", b"sent", b"outcome"]
@@ -491,7 +492,7 @@ def holds(row, tree):
     if tree[0] == "phrase":
         return bool(occurrences(row, tree))
     if tree[0] == "near":
-        distances = [10 if n is None else n for n in tree[2]]
+        distances = [3 if n is None else n for n in tree[2]]
         for choice in itertools.product(*[occurrences(row, phrase) for phrase in tree[1]]):
             if all(near(x, y, n) for x, y, n in zip(choice, choice[1:], distances)):
                 return True
@@ -615,10 +616,13 @@ def test_search():
         (b"c NEAR/1 x NEAR/0 a", []), (b"c NEAR/2 x NEAR/0 a", [1]),
     ]:
         check("near %r" % query, found([line], query), docids)
-    ten = leaf_of(1, b"a 1 2 3 4 5 6 7 8 9 10 b", b"", b"")
+    three = leaf_of(1, b"a 1 2 3 b", b"", b"")
+    four = leaf_of(1, b"a 1 2 3 4 b", b"", b"")
     eleven = leaf_of(1, b"a 1 2 3 4 5 6 7 8 9 10 11 b", b"", b"")
-    check("bare NEAR", found([ten], b"b NEAR a"), [1])
-    check("bare NEAR", found([eleven], b"b NEAR a"), [])
+    check("bare NEAR", found([three], b"b NEAR a"), [1])
+    check("bare NEAR", found([four], b"b NEAR a"), [])
+    check("NEAR/3", found([four], b"b NEAR/3 a"), [])
+    check("NEAR/4", found([four], b"b NEAR/4 a"), [1])
     check("NEAR/10", found([eleven], b"b NEAR/10 a"), [])
     check("NEAR/11", found([eleven], b"b NEAR/11 a"), [1])
 
@@ -796,7 +800,7 @@ def test_sqlite_search(rng, vocabulary):
             else:
                 query = random_query(rng, vocabulary, NAMES)
             tree = ref.read_query(query, NAMES)
-            theirs = sqlite_docids(connection, query)
+            theirs = sqlite_docids(connection, differences.written_out(query))
             if tree is None or theirs is None:
                 only_here += tree is not None
                 only_there += theirs is not None

@@ -131,7 +131,7 @@ def query_tables(tally, library, box, page):
 def sqlite_tables(tally, library, box, page):
     """The page has just the queries that tests/test_sqlite.py asks of SQLite, and says what the box answers."""
     leaves = [folders.written(box, docid, [b"", b"", text]) for docid, text in ((1, b"x"), (2, b"y x"))]
-    known = (differences.ONLY_SQLITE, 2), (differences.ONLY_BOX, 0)
+    known = (differences.ONLY_SQLITE, 2), (differences.ONLY_BOX, 0), (differences.BARE_NEAR[1], 0)
     for count, (expected, answer) in enumerate(known):
         told = [query for query, _ in page.queries("| query | what it is |", count)]
         tally.check("differences, table %d" % count, sorted(told), sorted(expected))

@@ -75,7 +75,7 @@ def compare(rng, tally, counts, box, base, names, leaves):
         if tree is None:
             counts["left out"] += 1
             continue
-        theirs = match(base, query)
+        theirs = match(base, differences.written_out(query))
         if theirs is None and differences.may_be_too_deep(tree):
             counts["too deep for SQLite"] += 1
             continue
@@ -102,6 +102,14 @@ def known(tally, box, base):
     for query in differences.ONLY_BOX:
         tally.check("SQLite refuses %r" % query, match(base, query), None)
         tally.check("the box accepts %r" % query, box.search(*asked, query, 4)[0], 0)
+    text, queries = differences.BARE_NEAR
+    base.execute("delete from t")
+    base.execute("insert into t(docid, outcome) values (1, ?)", (text.decode(),))
+    asked = joined([b"node", b"sent", b"outcome"]) + joined([leaf.data for leaf in export_leaves.segments(base, "t")])
+    for query in queries:
+        tally.check("SQLite lists %r" % query, match(base, query), [1])
+        tally.check("the box does not list %r" % query, box.search(*asked, query, 4), (0, 0, [0] * 4))
+        tally.check("SQLite does not list %r with its distance" % query, match(base, differences.written_out(query)), [])
 
 
 def main(words):

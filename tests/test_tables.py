@@ -110,7 +110,7 @@ def compare(rng, tally, counts, library, base, export):
         tree = reference.read_query(query, names)
         if tree is None or differences.may_be_too_deep(tree):
             continue
-        theirs = listed(base, query)
+        theirs = listed(base, differences.written_out(query))
         tally.check("rows for %r" % query, fts4box.search(library, names, leaves, query), (0, len(theirs), theirs))
         counts["queries"] += 1
         counts["queries that list docids"] += bool(theirs)

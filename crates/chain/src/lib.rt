@@ -42,7 +42,7 @@ const NEAR_BARE: u8 = 2;
 const NEAR_WRITTEN: u8 = 3;
 
 // The distance of a NEAR with no number.
-const BARE_DISTANCE: u64 = 10;
+const BARE_DISTANCE: u64 = 3;
 
 // More than any position.
 const COLUMN_SIZE: u64 = 0x1_0000_0000;

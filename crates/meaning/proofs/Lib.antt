@@ -5,3 +5,4 @@ pub mod Agree
 pub mod Some
 pub mod Occurrences
 pub mod Operators
+pub mod Distances

@@ -8,7 +8,7 @@ use lib.ListN.{length, replicate}
 use Rattle.doclist.specs.Doclist.{Rising, docidLimit}
 use Rattle.leaf.specs.Leaf.{Term}
 use Rattle.query.specs.Tree.{Tree}
-use Rattle.meaning.specs.Satisfies.{Satisfies}
+use Rattle.meaning.specs.Satisfies.{SatisfiesWith, bareDistance}
 use Rattle.meaning.specs.Index.{live}
 
 -- exactly the docids with a property: all of them, no other, each once, in rising order
@@ -16,9 +16,12 @@ pub record Lists (P : ℕ → Type 0) (docids : List ℕ) : Type 0 where
   pub rising : Rising 0 docidLimit docids
   pub exact : (d : ℕ) → d < docidLimit → List·Memᴰ d docids ↔ P d
 
--- the docids of an index that satisfy a query
+-- the docids of an index that satisfy a query, where a NEAR without a number stands for `n`
+abbrev pub AnswersWith : ℕ → List (List Term) → Tree → List ℕ → Type 0
+AnswersWith n leaves tree docids = Lists (λ d. SatisfiesWith n (live leaves) d tree) docids
+
 abbrev pub Answers : List (List Term) → Tree → List ℕ → Type 0
-Answers leaves tree docids = Lists (λ d. Satisfies (live leaves) d tree) docids
+Answers leaves tree docids = AnswersWith bareDistance leaves tree docids
 
 -- how a docid is shown in the result room
 abbrev pub signedDocid : ℕ → ℤ

@@ -67,40 +67,57 @@ pub record OccurrencesAre (stands : Standing) (p : Phrase) (os : List Occurrence
 abbrev pub between : Occurrence → Occurrence → ℕ
 between a b = (b .first - (a .last + 1)) + (a .first - (b .last + 1))
 
--- "10 if no N is written"
-abbrev pub bareDistance : ℕ
-bareDistance = 10
-
-abbrev pub distanceOf : Distance → ℕ
-distanceOf bare = bareDistance
-distanceOf (written n) = n
+-- what is written at NEAR, where one without a number stands for `n`
+abbrev pub distanceWith : ℕ → Distance → ℕ
+distanceWith n bare = n
+distanceWith n (written k) = k
 
 -- "all in one column, with neighbours in the chain having at most N positions strictly between them, in either order";
 -- "Two occurrences are near only if they end at different positions" (document 02, §3)
-pub record Nearby (d : Distance) (a b : Occurrence) : Type 0 where
+pub record NearbyWith (n : ℕ) (d : Distance) (a b : Occurrence) : Type 0 where
   pub same-column : a .column ≡ b .column
-  pub close : between a b ≤ distanceOf d
+  pub close : between a b ≤ distanceWith n d
   pub apart : a .last ≡ b .last → ⊥
 
 -- one occurrence is chosen for each further operand, near the one chosen before it
-abbrev pub Chosen : Standing → Occurrence → List Link → Type 0
-Chosen stands before [] = Unit {0}
-Chosen stands before (l ∷ ls) =
-    (o : Occurrence) × Occurs stands (l .phrase) o × Nearby (l .distance) before o × Chosen stands o ls
+abbrev pub ChosenWith : ℕ → Standing → Occurrence → List Link → Type 0
+ChosenWith n stands before [] = Unit {0}
+ChosenWith n stands before (l ∷ ls) =
+    (o : Occurrence) × Occurs stands (l .phrase) o × NearbyWith n (l .distance) before o × ChosenWith n stands o ls
 
 -- "A NEAR chain holds if one occurrence of each operand can be chosen."
-abbrev pub ChainHolds : Standing → Chain → Type 0
-ChainHolds stands c = (o : Occurrence) × Occurs stands (c .first) o × Chosen stands o (c .links)
+abbrev pub ChainHoldsWith : ℕ → Standing → Chain → Type 0
+ChainHoldsWith n stands c = (o : Occurrence) × Occurs stands (c .first) o × ChosenWith n stands o (c .links)
 
 -- ---- operators
 
 -- "AND, OR and NOT have their plain meaning on one row."
-abbrev pub Holds : Standing → Tree → Type 0
-Holds stands (leaf c) = ChainHolds stands c
-Holds stands (joined OR a b) = Holds stands a ⊎ Holds stands b
-Holds stands (joined AND a b) = Holds stands a × Holds stands b
-Holds stands (joined NOT a b) = Holds stands a × (Holds stands b → ⊥)
+abbrev pub HoldsWith : ℕ → Standing → Tree → Type 0
+HoldsWith n stands (leaf c) = ChainHoldsWith n stands c
+HoldsWith n stands (joined OR a b) = HoldsWith n stands a ⊎ HoldsWith n stands b
+HoldsWith n stands (joined AND a b) = HoldsWith n stands a × HoldsWith n stands b
+HoldsWith n stands (joined NOT a b) = HoldsWith n stands a × (HoldsWith n stands b → ⊥)
 
 -- a row satisfies a query
+abbrev pub SatisfiesWith : ℕ → Live → ℕ → Tree → Type 0
+SatisfiesWith n live docid tree = HoldsWith n (StandsAt live docid) tree
+
+-- ---- the meaning that promises cite: "NEAR without a number now means 3" (document 02, §7)
+
+abbrev pub bareDistance : ℕ
+bareDistance = 3
+
+abbrev pub distanceOf : Distance → ℕ
+distanceOf d = distanceWith bareDistance d
+
+abbrev pub Chosen : Standing → Occurrence → List Link → Type 0
+Chosen stands before ls = ChosenWith bareDistance stands before ls
+
+abbrev pub ChainHolds : Standing → Chain → Type 0
+ChainHolds stands c = ChainHoldsWith bareDistance stands c
+
+abbrev pub Holds : Standing → Tree → Type 0
+Holds stands tree = HoldsWith bareDistance stands tree
+
 abbrev pub Satisfies : Live → ℕ → Tree → Type 0
-Satisfies live docid tree = Holds (StandsAt live docid) tree
+Satisfies live docid tree = SatisfiesWith bareDistance live docid tree

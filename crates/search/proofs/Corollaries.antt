@@ -20,12 +20,15 @@ use Rattle.leaf.specs.Leaf.{Term, IsLeaf, NoLeaf, AreLeaves}
 use Rattle.leaf.specs.Answers.{leafRefusals}
 use Rattle.query.specs.Tree.{Tree, NOT, joined, FilledTree}
 use Rattle.query.proofs.Bounds as bounds
+use Rattle.query.proofs.Accepting.{reads-unique}
 use Rattle.meaning.specs.Satisfies.{Satisfies, StandsAt}
+use Rattle.meaning.specs.Written.{WrittenTree}
 use Rattle.meaning.specs.Index.{live}
 use Rattle.meaning.specs.Listing.{Answers, signedDocid, roomWith, zeros}
 use Rattle.meaning.proofs.Lists.{lists-unique}
 use Rattle.meaning.proofs.Some.{holds-some}
-use Rattle.search.specs.Search.{numbersOf, Input, columnCount, leafBytes, ShapeRight, IsQuery, Searchable, refusals, roomFor, Searched}
+use Rattle.meaning.proofs.Distances.{answers-with-same}
+use Rattle.search.specs.Search.{numbersOf, Input, columnNames, columnCount, leafBytes, ShapeRight, IsQuery, Searchable, refusals, roomFor, SearchedWith, Searched}
 use Rattle.search.specs.Checking.{SoundLeaves}
 use Rattle.search.specs.declared.Answer.{Answer}
 use Rattle.search.specs.declared.Answer.the-variants as answer
@@ -155,6 +158,25 @@ answer-unique x n r q room left s t =
     refused a b =
         let p = same-answer (other-need x n (length (s .docids)) (length (t .docids)) (numbersOf r) (a .0) (a .1) (s .answered)) in
         (p, s .left ∙ refused-zeros n (s .docids) r (a .0) ∙ sym (refused-zeros n (t .docids) q (b .0)) ∙ sym (t .left))
+
+-- ---- queries with every distance written
+
+-- a search for one gives the same, whatever a NEAR without a number stands for
+pub written-same : (b c : ℕ) (x : Input) (n : ℕ) (r : Answer) (room : List ℤ) (tree : Tree)
+    → IsQuery x tree → WrittenTree tree → SearchedWith b x n r room → SearchedWith c x n r room
+written-same b c x n r room tree q w s =
+    record {
+      docids = s .docids;
+      listed = λ t leaves shape query are.
+          answers-with-same b c leaves t (s .docids) (subst WrittenTree (reads-unique (columnNames x) (x .query) tree t q query) w) (s .listed t leaves shape query are);
+      answered = s .answered;
+      left = s .left;
+    }
+
+-- "every query with all its distances written has the same list as before": when it stood for 10
+pub same-as-before : (x : Input) (n : ℕ) (r q : Answer) (room left : List ℤ) (tree : Tree)
+    → IsQuery x tree → WrittenTree tree → SearchedWith 10 x n r room → Searched x n q left → (r ≡ q) × (room ≡ left)
+same-as-before x n r q room left tree h w s t = answer-unique x n r q room left (written-same 10 3 x n r room tree h w s) t
 
 -- ---- the search
 

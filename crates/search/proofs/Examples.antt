@@ -27,10 +27,10 @@ use Rattle.query.specs.Tree.{leaf}
 use Rattle.query.specs.Grammar.{Reads, chain, single}
 use Rattle.query.proofs.Examples as query
 use Rattle.query.specs.Marked as query-spec
-use Rattle.meaning.specs.Satisfies.{StandsAt, Occurrence, Occurs}
+use Rattle.meaning.specs.Satisfies.{StandsAt, Occurrence, Occurs, Satisfies, SatisfiesWith}
 use Rattle.document.proofs.Examples as document
 use Rattle.document.specs.Marked as document-spec
-use Rattle.search.specs.Marked.{a, b, text, liveIn, nearText, word, bareText, marked, allMarked}
+use Rattle.search.specs.Marked.{a, b, text, liveIn, nearText, word, bareText, bareTree, marked, allMarked}
 
 -- ---- where the words stand
 
@@ -156,6 +156,50 @@ examples = (
       λ h. h .2 .2 .apart (occurs-only a a 0 a-alone (h .0) (h .1) .1 ∙ sym (occurs-only a a 0 a-alone (h .2 .0) (h .2 .1) .1)),
     ),
     tt,
+  ),
+)
+
+-- ---- document 02, §7: `a NEAR b` holds with three words between them and fails with four, which was near enough at 10
+
+-- `a x x x b`, `a x x x x b`
+unfoldable pub three : List ℕ
+three = 97 ∷ 32 ∷ 120 ∷ 32 ∷ 120 ∷ 32 ∷ 120 ∷ 32 ∷ 98 ∷ []
+
+unfoldable pub four : List ℕ
+four = 97 ∷ 32 ∷ 120 ∷ 32 ∷ 120 ∷ 32 ∷ 120 ∷ 32 ∷ 120 ∷ 32 ∷ 98 ∷ []
+
+a-three : Once three a 0
+unfolding three span isWord isSeparator fold wordStart wordEnd placesIn same
+a-three column = refl
+
+b-three : Once three b 4
+unfolding three span isWord isSeparator fold wordStart wordEnd placesIn same
+b-three column = refl
+
+a-four : Once four a 0
+unfolding four span isWord isSeparator fold wordStart wordEnd placesIn same
+a-four column = refl
+
+b-four : Once four b 5
+unfolding four span isWord isSeparator fold wordStart wordEnd placesIn same
+b-four column = refl
+
+pub bare-is-three : Satisfies (liveIn three) 7 (bareTree a b) × (Satisfies (liveIn four) 7 (bareTree a b) → ⊥) × SatisfiesWith 10 (liveIn four) 7 (bareTree a b)
+bare-is-three = (
+  (
+    record { column = 0; first = 0; last = 0 },
+    occurs three a 0 a-three,
+    (record { column = 0; first = 4; last = 4 }, occurs three b 4 b-three, record { same-column = refl; close = omega arith; apart = λ e. omega arith }, tt),
+  ),
+  λ h.
+      let f = occurs-only four a 0 a-four (h .0) (h .1) in
+      let g = occurs-only four b 5 b-four (h .2 .0) (h .2 .1) in
+      let n = h .2 .2 .close in
+      absurd (omega arith),
+  (
+    record { column = 0; first = 0; last = 0 },
+    occurs four a 0 a-four,
+    (record { column = 0; first = 5; last = 5 }, occurs four b 5 b-four, record { same-column = refl; close = omega arith; apart = λ e. omega arith }, tt),
   ),
 )
 

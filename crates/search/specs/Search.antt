@@ -14,7 +14,8 @@ use Rattle.leaf.specs.Leaf.{Term, AreLeaves}
 use Rattle.leaf.specs.Answers.{leafRefusals}
 use Rattle.query.specs.Tree.{Tree}
 use Rattle.query.specs.Grammar.{Reads}
-use Rattle.meaning.specs.Listing.{Answers, roomWith, zeros}
+use Rattle.meaning.specs.Satisfies.{bareDistance}
+use Rattle.meaning.specs.Listing.{AnswersWith, roomWith, zeros}
 use Rattle.search.specs.declared.Answer.{Answer}
 use Rattle.search.specs.declared.Answer.the-variants as answer
 
@@ -87,10 +88,14 @@ roomFor n docids answer.Query = zeros n
 roomFor n docids (answer.Leaf i) = zeros n
 roomFor n docids (answer.Room k) = zeros n
 
--- a search in a room of `n` numbers gives the answer `r` and leaves `room`
-pub record Searched (x : Input) (n : ℕ) (r : Answer) (room : List ℤ) : Type 0 where
+-- a search in a room of `n` numbers gives the answer `r` and leaves `room`, where a NEAR without a number stands for `b`
+pub record SearchedWith (b : ℕ) (x : Input) (n : ℕ) (r : Answer) (room : List ℤ) : Type 0 where
   -- the list: of all docids that satisfy the query, whenever it is one and the leaves are leaves
   pub docids : List ℕ
-  pub listed : (tree : Tree) (leaves : List (List Term)) → ShapeRight x → IsQuery x tree → AreLeaves (columnCount x) (leafBytes x) leaves → Answers leaves tree docids
+  pub listed : (tree : Tree) (leaves : List (List Term)) → ShapeRight x → IsQuery x tree → AreLeaves (columnCount x) (leafBytes x) leaves → AnswersWith b leaves tree docids
   pub answered : FirstDue (refusals x n (length docids)) (numbers 0 (length docids)) (numbersOf r)
   pub left : room ≡ roomFor n docids r
+
+-- what is promised: it stands for 3
+abbrev pub Searched : Input → ℕ → Answer → List ℤ → Type 0
+Searched x n r room = SearchedWith bareDistance x n r room
