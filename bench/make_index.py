@@ -51,4 +51,5 @@ def main(folder):
         print("%d rows: %d leaves, %d bytes" % (rows, len(leaves), sum(map(len, leaves))))
 
 
-main(sys.argv[1])
+if __name__ == "__main__":
+    main(sys.argv[1])

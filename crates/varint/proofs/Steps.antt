@@ -1,15 +1,16 @@
--- What `readFrom` gives at each kind of byte, and what the scale leaves room for.
+-- What `readFrom` gives at each kind of byte, that the short way answers as the long way does, and what the scale leaves room
+-- for.
 use Prim.Native.Nat.{ℕ, zero, suc, _+_, _-_, _*_, _^_, _≤_, _<_}
 use native.Mathlib.Nat.{not-suc-le-zero}
 use native.Mathlib.Omega.{arith}
 use native.Mathlib.Numerals.{sub-one}
-use mathlib.Core.Path.{_≡_, refl, ap₂, _∙_}
+use mathlib.Core.Path.{_≡_, refl, sym, ap₂, _∙_}
 use mathlib.Core.List.{List}
 use lib.ListN.{length, getD}
 use borrow.Author.Tests.{lt-ltb, le-ltb, eq-eqb, ne-eqb}
 use Rattle.common.proofs.Cases.{split}
 use Rattle.common.proofs.Numbers.{scale-step, scale-room, digit-room}
-use Rattle.varint.specs.Varint.{readFrom, readAt}
+use Rattle.varint.specs.Varint.{readFrom, readIn, readAt, readShort}
 use Rattle.varint.specs.declared.Varint.the-variants.{Value, Refused}
 
 -- ---- a byte
@@ -66,13 +67,32 @@ module _ (s : List ℕ) (i value scale : ℕ) where
   no-byte (suc left) h b = simp (lt-ltb _ _ h, le-ltb (getD s i 0) 128 (omega arith), le-ltb _ _ b)
 
 -- a number of one byte
-pub one-byte : (s : List ℕ) (at : ℕ) → at < length s → getD s at 0 < 128 → readAt s at ≡ Value (getD s at 0) (at + 1)
-unfolding readFrom
-one-byte s at h b = split 0 (getD s at 0)
-    (λ p. last s at 0 1 9 (omega arith) h b p ∙ ap₂ Value (omega arith) refl)
-    (λ p. only-zero s at 0 1 9 (omega arith) h b p refl ∙ ap₂ Value (omega arith) refl)
+one-byte : (most : ℕ) (s : List ℕ) (at : ℕ) → 0 < most → at < length s → getD s at 0 < 128 → readIn most s at ≡ Value (getD s at 0) (at + 1)
+one-byte most s at z h b = split 0 (getD s at 0)
+    (λ p. last s at 0 1 most z h b p ∙ ap₂ Value (omega arith) refl)
+    (λ p. only-zero s at 0 1 most z h b p refl ∙ ap₂ Value (omega arith) refl)
 
--- ---- the scale
+-- ---- the short way
+
+module _ (most : ℕ) (s : List ℕ) (at : ℕ) where
+  pub short-end : length s ≤ at → readShort most s at ≡ Refused
+  short-end h = rw (le-ltb _ _ h) (past-end s at 0 1 most h)
+
+  pub short-one : at < length s → getD s at 0 < 128 → readShort most s at ≡ Value (getD s at 0) (at + 1)
+  short-one h b = rw (lt-ltb _ _ h, lt-ltb _ _ b) refl
+
+  short-more : at < length s → 128 ≤ getD s at 0 → readShort most s at ≡ readIn most s at
+  short-more h b = rw (lt-ltb _ _ h, le-ltb _ _ b) refl
+
+-- at any place of any bytes the short way answers as the long way alone does
+pub short-same : (most : ℕ) (s : List ℕ) (at : ℕ) → 0 < most → readShort most s at ≡ readIn most s at
+short-same most s at z =
+    split at (length s)
+    (λ h.
+    split (getD s at 0) 128
+    (λ b. short-one most s at h b ∙ sym (one-byte most s at z h b))
+    (λ b. short-more most s at h b))
+    (λ h. short-end most s at h ∙ sym (past-end s at 0 1 most h))
 
 -- ---- the reader's loop
 

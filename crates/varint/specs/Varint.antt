@@ -54,6 +54,13 @@ readIn most s at = readFrom most s at 0 1
 abbrev pub readAt : List ℕ → ℕ → Varint
 readAt s at = readIn maxVarint s at
 
+-- "answer such a number from its one byte" (document 02, §2): a byte below 128 is the number; any other is read the long way
+abbrev pub readShort : ℕ → List ℕ → ℕ → Varint
+readShort most s at =
+    pick (ltb at (length s))
+    (pick (ltb (getD s at 0) 128) (Value (getD s at 0) (at + 1)) (readIn most s at))
+    (readIn most s at)
+
 -- what goes on with a number and the place after it, or `none` where no number is stored
 abbrev pub onVarint {ℓ} : {X : Type ℓ} → X → Varint → (ℕ → ℕ → X) → X
 onVarint none (Value v next) go = go v next

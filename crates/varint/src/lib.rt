@@ -39,7 +39,8 @@ pub enum Written {
     TooLarge,
 }
 
-// The number that is stored from the place `at` on, read byte by byte.
+// The number that is stored from the place `at` on, read byte by byte. Open to `opening::front_at`, which reads the first docid
+// of a list: that is seldom below 128.
 pub fn read_long(s: &[u8], at: usize) -> Varint
     ensures reader { λ r. ⌜ r ≡ readAt (now (s .entry)) at ⌝ }
     ensures stored { λ r. ⌜ ((v next : ℕ) → (r ≡ Varint.Value v next) ↔ StoredAt maxVarint (now (s .entry)) at v next) ⌝ }
@@ -73,8 +74,8 @@ pub fn read_long(s: &[u8], at: usize) -> Varint
     Varint::Refused
 }
 
-// The number that is stored from the place `at` on. Most numbers take one byte, so that is tried first: this is short enough to
-// be compiled into its callers' loops.
+// The number that is stored from the place `at` on. Most numbers take one byte, so that is tried first (document 02, section 2):
+// this is short enough to be compiled into its callers' loops.
 pub fn read(s: &[u8], at: usize) -> Varint
     ensures reader { λ r. ⌜ r ≡ readAt (now (s .entry)) at ⌝ }
     ensures stored { λ r. ⌜ ((v next : ℕ) → (r ≡ Varint.Value v next) ↔ StoredAt maxVarint (now (s .entry)) at v next) ⌝ }
@@ -82,10 +83,10 @@ pub fn read(s: &[u8], at: usize) -> Varint
     if s.len() <= at {
         return Varint::Refused;
     }
-    let b = s[at] as u64;
-    if b < TOP_BIT {
+    let first = s[at] as u64;
+    if first < TOP_BIT {
         return Varint::Value {
-            value: b,
+            value: first,
             next: at + 1,
         };
     }

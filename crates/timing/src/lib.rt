@@ -1,0 +1,45 @@
+// Calls that only the benchmark links (bench/numbers.sh): the check of a leaf, and the reading of stored numbers at given places.
+// Built over the reader as it is and over one that goes the long way alone, they tell what the short way is worth.
+use leaf::LeafCheck;
+use varint::Varint;
+ghost use mathlib.Core.Path.{_≡_};
+ghost use Prim.Native.Nat.{_%_, _^_, _<_};
+ghost use Rattle.leaf.specs.Answers.{checkLeaf, checkNumbers};
+ghost use Rattle.timing.specs.Numbers.{numberAt, sumAt};
+
+// The number at a place, or 0.
+fn number(s: &[u8], at: usize) -> u64
+    ensures is { λ r. ⌜ r ≡ numberAt (now (s .entry)) at ⌝ }
+    ensures small { λ r. ⌜ r < 2 ^ 63 ⌝ }
+{
+    match varint::read(s, at) {
+        Varint::Value { value, next: _ } => value,
+        Varint::Refused => 0,
+    }
+}
+
+// The numbers at the places, summed up.
+#[no_mangle]
+pub extern "C" fn timed_numbers(s: &[u8], places: &[u32]) -> u64
+    ensures { λ r. ⌜ r ≡ sumAt (now (s .entry)) (now (places .entry)) % 2 ^ 63 ⌝ }
+{
+    let mut sum: u64 = 0;
+    let mut i = 0;
+    while i < places.len() {
+        sum = (sum + number(s, places[i] as usize)) % varint::LIMIT;
+        i += 1;
+    }
+    sum
+}
+
+// The number that answers the check of a leaf.
+#[no_mangle]
+pub extern "C" fn timed_check(leaf: &[u8], columns: u32) -> u32
+    ensures { λ r. ⌜ r ≡ checkNumbers (checkLeaf columns (now (leaf .entry))) .number ⌝ }
+{
+    match leaf::check(leaf, columns) {
+        LeafCheck::Accepted => 0,
+        LeafCheck::Shape => 1,
+        LeafCheck::Broken => 3,
+    }
+}
