@@ -21,7 +21,7 @@ static size_t leaves_len, leaf_count, texts_len, text_count;
 static const char *query;
 static const uint8_t names[] = "nodesentoutcome";
 static const uint32_t name_ends[] = {4, 8, 15};
-static uint64_t second, start;
+static uint64_t second, start, numbers_read;
 static uint32_t which;
 
 static void nothing(void)
@@ -35,7 +35,7 @@ static void check(void)
 
 static void lookup(void)
 {
-    fts4_lookup(leaves, leaf_ends[0], 3, (const uint8_t *)"a", 1, &second, &start);
+    fts4_lookup(leaves, leaf_ends[0], 3, (const uint8_t *)"a", 1, &second, &start, &numbers_read);
 }
 
 static void deciding(void)

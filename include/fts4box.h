@@ -34,8 +34,8 @@ extern "C" {
 #endif
 
 /* A change of a signature or of what a call answers raises the version. The number is 100 times its first part plus the second. */
-#define FTS4BOX_VERSION "1.2"
-#define FTS4BOX_VERSION_NUMBER 102
+#define FTS4BOX_VERSION "1.3"
+#define FTS4BOX_VERSION_NUMBER 103
 
 /* The bounds: what is over one is refused. */
 #define FTS4_MAX_QUERY 512      /* bytes of a query */
@@ -70,9 +70,10 @@ uint32_t fts4_check(const uint8_t *leaf, size_t leaf_len, uint32_t columns, uint
 /* Looks a word of 1 to 64 bytes up in one leaf, with no folding.
  *
  * Answers 0, 1 or 3. If the answer is 0 and *second is not 0, the word's posting list is leaf[*start .. *start + *second];
- * otherwise there is no such list, and *start is 0. */
+ * otherwise there is no such list, and *start is 0. *numbers_read is how many stored numbers were read outside posting lists, the
+ * check of the leaf not counted: 3 for each word looked at, up to the first that is not less than the one sought; 0 if refused. */
 uint32_t fts4_lookup(const uint8_t *leaf, size_t leaf_len, uint32_t columns, const uint8_t *word, size_t word_len,
-                     uint64_t *second, uint64_t *start);
+                     uint64_t *second, uint64_t *start, uint64_t *numbers_read);
 
 /* Looks for the entry that decides for a word and a docid of 0 or more: of the newer leaf if it has one, a deletion too, else of
  * the older. The two leaves have at most 65,536 bytes together.

@@ -72,10 +72,10 @@ class Box:
         return number, number_at(second, 8)
 
     def lookup(self, leaf, columns, word):
-        second, start = self.lend_numbers(8, 8)
+        second, start, read = self.lend_numbers(8, 8, 8)
         leaf_at, leaf_len, word_at, word_len = self.lend(leaf, word)
-        number = self.library.fts4_lookup(leaf_at, leaf_len, columns, word_at, word_len, second, start)
-        return number, number_at(second, 8), number_at(start, 8)
+        number = self.library.fts4_lookup(leaf_at, leaf_len, columns, word_at, word_len, second, start, read)
+        return number, number_at(second, 8), number_at(start, 8), number_at(read, 8)
 
     def deciding(self, newer, older, columns, word, docid):
         second, which, start = self.lend_numbers(8, 4, 8)

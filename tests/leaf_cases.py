@@ -21,8 +21,8 @@ def ask_check(cases, leaf, columns):
 
 def ask_lookup(cases, leaf, columns, word):
     cases.ask(LOOKUP, columns, first=leaf, short=word)
-    number, size, start = reference.lookup(leaf, columns, word)
-    cases.expect(number, size, start, leaf[start:start + size] if number == 0 else b"")
+    number, size, start, read = reference.lookup(leaf, columns, word)
+    cases.expect(number, size, start, read, leaf[start:start + size] if number == 0 else b"")
 
 
 def ask_deciding(cases, newer, older, columns, word, docid):
@@ -171,6 +171,17 @@ def lookups(cases, rng):
                 ask_deciding(cases, newer, older, columns, word, docid)
 
 
+def numbers_read(cases):
+    """Words before, at, between and after those of a leaf: one word, words apart, words that share prefixes."""
+    for words in ((b"m",), (b"b", b"d", b"f", b"h"), (b"ab", b"abc", b"abcd", b"abd", b"b"), tuple(b"w%03d" % n for n in range(200))):
+        leaf = reference.encode_leaf([(word, [(7, [(0, [n])])]) for n, word in enumerate(words)])
+        for word in words:
+            for sought in (word, word + b"\x00", word[:-1] + bytes([word[-1] - 1]), word[:-1] + bytes([word[-1] + 1]), word[:1]):
+                ask_lookup(cases, leaf, 1, sought)
+        for sought in (b"\x00", b"\xff" * 64):
+            ask_lookup(cases, leaf, 1, sought)
+
+
 def refusals(cases):
     """Each refusal of the lookups, alone and two at once."""
     bad = P12[:-1]
@@ -202,5 +213,6 @@ def make(cases):
     leaves(cases)
     sizes(cases)
     lookups(cases, rng)
+    numbers_read(cases)
     refusals(cases)
     deletions(cases)

@@ -272,21 +272,26 @@ def write_leaf(docid, texts, ends, room_len):
 
 
 def lookup(leaf, columns, word):
-    """The word's doclist as (number, bytes in the part, start in the leaf).
+    """The word's doclist as (number, bytes in the part, start in the leaf, stored numbers read).
 
-    Document 01, "Lookups", one leaf; the start is 0 when the part is empty.
+    Document 01, "Lookups", one leaf; the start is 0 when the part is empty. Document 02, section 10: the height is one number, the first
+    word two, a later word three, up to the first word not less than the one sought.
     """
     if not columns_ok(columns) or len(leaf) > MAX_LEAF_BYTES:
-        return SHAPE, 0, 0
+        return SHAPE, 0, 0, 0
     if not 1 <= len(word) <= MAX_WORD_BYTES:
-        return SHAPE, 0, 0
+        return SHAPE, 0, 0, 0
     terms = parse_leaf(leaf, columns)
     if terms is None:
-        return LEAF, 0, 0
-    for term, _, start, end in terms:
+        return LEAF, 0, 0, 0
+    read = 1
+    for place, (term, _, start, end) in enumerate(terms):
+        read += 2 if place == 0 else 3
         if term == word:
-            return ACCEPTED, end - start, start
-    return ACCEPTED, 0, 0
+            return ACCEPTED, end - start, start, read
+        if term > word:
+            break
+    return ACCEPTED, 0, 0, read
 
 
 def deciding(newer, older, columns, word, docid):
@@ -302,7 +307,7 @@ def deciding(newer, older, columns, word, docid):
         if parse_leaf(leaf, columns) is None:
             return LEAF, which, 0, 0
     for which, leaf in enumerate([newer, older]):
-        _, length, list_start = lookup(leaf, columns, word)
+        _, length, list_start, _ = lookup(leaf, columns, word)
         if length == 0:
             continue
         doclist = leaf[list_start:list_start + length]

@@ -113,7 +113,7 @@ def test_dropped_bytes():
     for at in range(len(P12)):
         dropped = P12[:at] + P12[at + 1:]
         check("dropped %d" % at, ref.check_leaf(dropped, 3), (3, 0))
-        check("dropped %d" % at, ref.lookup(dropped, 3, b"reply"), (3, 0, 0))
+        check("dropped %d" % at, ref.lookup(dropped, 3, b"reply"), (3, 0, 0, 0))
         check("dropped %d" % at, search([dropped], b"reply", 2), (3, 0, [0, 0]))
         check("dropped %d" % at, search([P12, dropped], b"reply", 2), (3, 1, [0, 0]))
         check("dropped %d" % at, ref.one_search(b"reply", dropped), "refused 3 0\n")
@@ -228,9 +228,9 @@ def test_round_trips(rng):
         parsed = ref.parse_leaf(leaf, columns)
         check("leaf", [(term, found) for term, found, _, _ in parsed], terms)
         check("leaf", ref.check_leaf(leaf, columns), (0, 0))
-        for term, found_entries, start, end in parsed:
+        for place, (term, found_entries, start, end) in enumerate(parsed):
             check("list", leaf[start:end], ref.encode_doclist(found_entries))
-            check("lookup", ref.lookup(leaf, columns, term), (0, end - start, start))
+            check("lookup", ref.lookup(leaf, columns, term), (0, end - start, start, 3 * (place + 1)))
     accepted = 0
     for _ in range(2000):
         columns = rng.randrange(1, 4)
@@ -315,16 +315,19 @@ def test_rules():
 
 def test_lookups():
     """Document 01, "Lookups"."""
-    check("lookup", ref.lookup(P12, 3, b"reply"), (0, 6, 30))
-    check("lookup", ref.lookup(P12, 3, b"n12"), (0, 3, 6))
-    check("lookup", ref.lookup(P12, 3, b"Reply"), (0, 0, 0))
-    check("lookup", ref.lookup(P12, 3, b"repl"), (0, 0, 0))
-    check("lookup", ref.lookup(P12, 3, b"a" * 64), (0, 0, 0))
+    # its words are n12, probe and reply; the last number is document 02's, section 10
+    check("lookup", ref.lookup(P12, 3, b"reply"), (0, 6, 30, 9))
+    check("lookup", ref.lookup(P12, 3, b"n12"), (0, 3, 6, 3))
+    check("lookup", ref.lookup(P12, 3, b"Reply"), (0, 0, 0, 3))
+    check("lookup", ref.lookup(P12, 3, b"repl"), (0, 0, 0, 9))
+    check("lookup", ref.lookup(P12, 3, b"a" * 64), (0, 0, 0, 3))
+    check("lookup", ref.lookup(P12, 3, b"o"), (0, 0, 0, 6))
+    check("lookup", ref.lookup(P12, 3, b"z"), (0, 0, 0, 9))
     for columns, word in [(3, b""), (3, b"a" * 65), (0, b"a"), (17, b"a")]:
-        check("lookup", ref.lookup(P12, columns, word), (1, 0, 0))
-        check("lookup", ref.lookup(b"", columns, word), (1, 0, 0))
+        check("lookup", ref.lookup(P12, columns, word), (1, 0, 0, 0))
+        check("lookup", ref.lookup(b"", columns, word), (1, 0, 0, 0))
         check("deciding", ref.deciding(P12, P12, columns, word, 7), (1, 0, 0, 0))
-    check("lookup", ref.lookup(b"", 3, b"a"), (3, 0, 0))
+    check("lookup", ref.lookup(b"", 3, b"a"), (3, 0, 0, 0))
     newer = ref.encode_leaf([(b"a", [(5, []), (9, [(1, [4])])])])
     older = ref.encode_leaf([(b"a", [(5, [(0, [1])]), (6, [(0, [2])]), (300, [])]),
                              (b"b", [(9, [(0, [0])])])])

@@ -12,7 +12,7 @@ ARCHIVE = os.path.join(ROOT, "target", "staticlib", "libfts4box.a")
 U32, U64, I64, SIZE, PTR = ctypes.c_uint32, ctypes.c_uint64, ctypes.c_int64, ctypes.c_size_t, ctypes.c_void_p
 CALLS = {
     "fts4_check": [PTR, SIZE, U32, PTR],
-    "fts4_lookup": [PTR, SIZE, U32, PTR, SIZE, PTR, PTR],
+    "fts4_lookup": [PTR, SIZE, U32, PTR, SIZE, PTR, PTR, PTR],
     "fts4_deciding": [PTR, SIZE, PTR, SIZE, U32, PTR, SIZE, I64, PTR, PTR, PTR],
     "fts4_write": [I64, PTR, SIZE, PTR, SIZE, PTR, SIZE, PTR],
     "fts4_search": [PTR, SIZE, PTR, SIZE, PTR, SIZE, PTR, SIZE, PTR, SIZE, PTR, SIZE, PTR],

@@ -23,8 +23,12 @@ pub(crate) fn check(leaf: &[u8], columns: u32) {
 
 fn say_start(answer: WordAnswer) {
     match answer {
-        WordAnswer::Found { start, size: _ } => exchange::say(start as u64),
-        WordAnswer::Nothing => exchange::say(0),
+        WordAnswer::Found {
+            start,
+            size: _,
+            read: _,
+        } => exchange::say(start as u64),
+        WordAnswer::Nothing { read: _ } => exchange::say(0),
         WordAnswer::Shape => exchange::say(0),
         WordAnswer::Broken => exchange::say(0),
     }
@@ -33,10 +37,12 @@ fn say_start(answer: WordAnswer) {
 pub(crate) fn look_up(leaf: &[u8], columns: u32, word: &[u8]) {
     let mut number: u32 = 9;
     let mut second: u64 = 9;
-    let part = lookup::lookup(leaf, columns, word, &mut number, &mut second);
+    let mut read: u64 = 9;
+    let part = lookup::lookup(leaf, columns, word, &mut number, &mut second, &mut read);
     exchange::say(number as u64);
     exchange::say(second);
     say_start(lookup::find_list(leaf, columns, word));
+    exchange::say(read);
     exchange::say_bytes(part);
 }
 

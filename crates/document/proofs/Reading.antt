@@ -21,9 +21,10 @@ use Rattle.leaf.specs.declared.LeafCheck.the-variants.{Accepted}
 use Rattle.leaf.proofs.Checks.{accepted-exactly, checked}
 use Rattle.leaf.proofs.Once.{list-part}
 use Rattle.leaf.proofs.Laws.{same-terms}
+use Rattle.lookup.specs.Numbers.{numbersRead}
 use Rattle.lookup.specs.Words.{LookupShape, WordIs}
 use Rattle.lookup.specs.declared.WordAnswer.the-variants.{Found, Nothing}
-use Rattle.lookup.proofs.WordLaws.{word-claims}
+use Rattle.lookup.proofs.WordLaws.{found-of, nothing-of}
 use Rattle.document.specs.Document.{HasWordAt, allWords, distinct, documentTerm, documentTerms, leafOrNothing, documentLeaf, Writable, IsDocument}
 use Rattle.document.proofs.Distinct.{distinct-has, distinct-from}
 use Rattle.document.proofs.Terms.{stands-word, word-stands, word-some, document-is, document-well-formed}
@@ -126,23 +127,24 @@ module _ (docid : ℕ) (texts : List (List ℕ)) (h : Writable docid texts) (som
 
   -- looking up a word of the document gives its list
   pub word-found : (w : List ℕ) (c p : ℕ) → HasWordAt texts w c p
-      → (start : ℕ) × (size : ℕ) × WordIs (length texts) (documentLeaf docid texts) w (Found start size)
+      → (start : ℕ) × (size : ℕ) × WordIs (length texts) (documentLeaf docid texts) w (Found start size (numbersRead (documentTerms docid texts) w))
       × (part (documentLeaf docid texts) start (start + size) ≡ encodeList (documentTerm docid texts w .entries))
   word-found w c p st =
       let m = stands-word texts w c p st in
       let l = list-stands (documentTerms docid texts) (documentTerm docid texts w) (Memᴰ·map (documentTerm docid texts) (distinct-has (allWords texts) w m)) in (
         l .0,
         l .1,
-        word-claims (length texts) (documentLeaf docid texts) w (Found (l .0) (l .1)) .1
-            (lookup-shape w (word-some texts w m) (h .short w c p st), (documentTerms docid texts, leaf-is, l .2)),
+        found-of (length texts) (documentLeaf docid texts) w (documentTerms docid texts) (lookup-shape w (word-some texts w m) (h .short w c p st)) leaf-is (l .0) (l .1) .1
+            (l .2),
         list-part (length texts) (l .2) (documentLeaf docid texts) leaf-bytes ∙ ap (λ (t : Term). encodeList (t .entries)) (l .3),
       )
 
   -- and any other word is not there
-  pub word-missing : (w : List ℕ) → 1 ≤ length w → length w ≤ maxWord → ((c p : ℕ) → HasWordAt texts w c p → ⊥) → WordIs (length texts) (documentLeaf docid texts) w Nothing
+  pub word-missing : (w : List ℕ) → 1 ≤ length w → length w ≤ maxWord → ((c p : ℕ) → HasWordAt texts w c p → ⊥)
+      → WordIs (length texts) (documentLeaf docid texts) w (Nothing (numbersRead (documentTerms docid texts) w))
   word-missing w l k n =
-      word-claims (length texts) (documentLeaf docid texts) w Nothing .1
-      (lookup-shape w l k, (documentTerms docid texts, leaf-is, none (distinct (allWords texts)) (λ m. let r = word-stands texts w (distinct-from (allWords texts) w m) in n (r .0) (r .1) (r .2))))
+      nothing-of (length texts) (documentLeaf docid texts) w (documentTerms docid texts) (lookup-shape w l k) leaf-is .1
+      (none (distinct (allWords texts)) (λ m. let r = word-stands texts w (distinct-from (allWords texts) w m) in n (r .0) (r .1) (r .2)))
     where
       none : (ws : List (List ℕ)) → (List·Memᴰ w ws → ⊥) → NoTerm (map (documentTerm docid texts) ws) w
       none [] f = tt

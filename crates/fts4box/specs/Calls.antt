@@ -7,7 +7,7 @@ use mathlib.Core.Path.{_≡_}
 use mathlib.Core.List.{List}
 use Rattle.common.specs.Refusals.{numbers, FirstDue}
 use Rattle.leaf.specs.Answers.{checkRefusals}
-use Rattle.lookup.specs.Words.{WordIs, wordNumbers}
+use Rattle.lookup.specs.Words.{WordIs, wordNumbers, wordRead}
 use Rattle.lookup.specs.Entries.{DecidingIs, decidingNumbers}
 use Rattle.lookup.specs.declared.WordAnswer.{WordAnswer}
 use Rattle.lookup.specs.declared.WordAnswer.the-variants as word
@@ -24,16 +24,18 @@ Checked columns leaf number second = FirstDue (checkRefusals columns leaf) (numb
 
 -- where the part of a lookup begins; 0 where there is none
 abbrev pub answerStart : WordAnswer → ℕ
-answerStart (word.Found start size) = start
-answerStart word.Nothing = 0
+answerStart (word.Found start size read) = start
+answerStart (word.Nothing read) = 0
 answerStart word.Shape = 0
 answerStart word.Broken = 0
 
-pub record LookedUp (columns : ℕ) (leaf wanted : List ℕ) (number second start : ℕ) : Type 0 where
+-- looking a word up in one leaf: where its list begins, and how many stored numbers were read
+pub record LookedUp (columns : ℕ) (leaf wanted : List ℕ) (number second start read : ℕ) : Type 0 where
   pub answer : WordAnswer
   pub right : WordIs columns leaf wanted answer
   pub numbers-are : numbers number second ≡ wordNumbers answer
   pub start-is : start ≡ answerStart answer
+  pub read-are : read ≡ wordRead answer
 
 abbrev pub entryStart : EntryAnswer → ℕ
 entryStart (entry.Newer start size) = start

@@ -46,8 +46,12 @@ fn word_start(answer: WordAnswer) -> u64
     ensures { λ r. ⌜ r ≡ answerStart answer ⌝ }
 {
     match answer {
-        WordAnswer::Found { start, size: _ } => start as u64,
-        WordAnswer::Nothing => 0,
+        WordAnswer::Found {
+            start,
+            size: _,
+            read: _,
+        } => start as u64,
+        WordAnswer::Nothing { read: _ } => 0,
         WordAnswer::Shape => 0,
         WordAnswer::Broken => 0,
     }
@@ -61,12 +65,14 @@ pub extern "C" fn fts4_lookup(
     word: &[u8],
     second: &mut u64,
     start: &mut u64,
+    read: &mut u64,
 ) -> u32
-    ensures { λ r. ⌜ LookedUp columns (now (leaf .entry)) (now (word .entry)) r (now (second .exit)) (now (start .exit)) ⌝ }
+    ensures { λ r. ⌜ LookedUp columns (now (leaf .entry)) (now (word .entry)) r (now (second .exit)) (now (start .exit)) (now (read .exit)) ⌝ }
 {
     let answer = lookup::find_list(leaf, columns, word);
     *second = lookup::word_second(answer);
     *start = word_start(answer);
+    *read = lookup::word_read(answer);
     lookup::word_number(answer)
 }
 

@@ -45,7 +45,7 @@ module _ (count : ℕ) (s : List ℕ) (small : length s < 2 ^ 63) where
           let q : n ≡ 1 = stored-at s 0 h n .0 e .ends ∙ ap (λ (v : ℕ). 0 + length (encode v)) z in
           subst (λ (i : ℕ). P (frontOf (walkFrom (length s) count s i [] 0))) (sym q) (f (e ∙ ap₂ varint.Value z q))
 
-  height-there : (ts : List Term) (rest : List ℕ) → s ≡ encodeLeaf ts ++ rest → readAt s 0 ≡ varint.Value 0 1
+  pub height-there : (ts : List Term) (rest : List ℕ) → s ≡ encodeLeaf ts ++ rest → readAt s 0 ≡ varint.Value 0 1
   unfolding encodeIn
   height-there [] rest e = reads maxVarint s 0 0 rest (omega arith) (omega arith) e
   height-there (t ∷ ts) rest e = reads maxVarint s 0 0 (termBytes (t .word) (t .entries) ++ encodeTerms (t .word) ts ++ rest) (omega arith) (omega arith) (e ∙ simp append-assoc)

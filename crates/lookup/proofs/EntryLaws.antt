@@ -68,8 +68,8 @@ entry-once count {ts} {word} {docid} w e f =
 
 -- where a match falls past what was found
 pub found-none : (ts : List Term) (sought : List ℕ) (r : WordAnswer) → OneOf (1 ∷ 2 ∷ 3 ∷ []) (tagOf word-answer.the-type r) → WordFound ts sought r → NoTerm ts sought
-found-none ts sought (word.Found start size) k t = absurd (miss (1 ∷ 2 ∷ 3 ∷ []) 0 tt k)
-found-none ts sought word.Nothing k t = t
+found-none ts sought (word.Found start size read) k t = absurd (miss (1 ∷ 2 ∷ 3 ∷ []) 0 tt k)
+found-none ts sought (word.Nothing read) k t = t .0
 found-none ts sought word.Shape k t = absurd t
 found-none ts sought word.Broken k t = absurd t
 

@@ -2,6 +2,7 @@
 use doclist::EntryAt;
 use leaf::Head;
 use leaf::LeafCheck;
+use varint::Varint;
 ghost use mathlib.Core.Path.{_≡_};
 ghost use mathlib.Core.Logic.{_↔_};
 ghost use mathlib.Core.List.{List};
@@ -10,7 +11,7 @@ ghost use Prim.Native.Nat.{ℕ, _≤_, _<_};
 ghost use lib.ListN.{length};
 ghost use Rattle.leaf.specs.Leaf.{Term, LeafIs};
 ghost use Rattle.lookup.specs.Order.{OrderIs, SharedMost, StandsIs};
-ghost use Rattle.lookup.specs.Words.{WordFound, WordIs, wordNumbers, WordGiven};
+ghost use Rattle.lookup.specs.Words.{WordFound, WordIs, wordNumbers, wordRead, WordGiven};
 ghost use Rattle.lookup.specs.Entries.{EntryFound, BothLeaves, Decides, DecidingShape, DecidingIs, decidingNumbers, EntryGiven};
 
 // Document 01's numbers of the answers.
@@ -22,6 +23,14 @@ const BROKEN: u32 = 3;
 
 // ---- one leaf
 
+// The stored numbers outside posting lists: the height; of the first word its size and that of its list; of a later word its prefix
+// too.
+const HEIGHT_NUMBERS: u64 = 1;
+
+const FIRST_NUMBERS: u64 = 2;
+
+const LATER_NUMBERS: u64 = 3;
+
 // How a word stands to the one sought.
 enum Order {
     // It comes before, and shares so many bytes with it from the start.
@@ -32,10 +41,16 @@ enum Order {
 
 // What looking a word up in one leaf answers.
 pub enum WordAnswer {
-    // The word's posting list is `size` bytes from `start`.
-    Found { start: usize, size: usize },
+    // The word's posting list is `size` bytes from `start`; `read` numbers were read outside posting lists.
+    Found {
+        start: usize,
+        size: usize,
+        read: u64,
+    },
     // The leaf does not have the word.
-    Nothing,
+    Nothing {
+        read: u64,
+    },
     // The column count, the leaf's size or the word's length is not allowed.
     Shape,
     // The leaf breaks a rule.
@@ -90,8 +105,17 @@ fn seek(leaf: &[u8], word: &[u8]) -> WordAnswer
     requires { ⌜ 0 < length (now word) ⌝ }
     ensures { λ r. ⌜ ((columns : ℕ) (ts : List Term) → LeafIs columns (now (leaf .entry)) ts → WordFound ts (now (word .entry)) r) ⌝ }
 {
+    let Varint::Value {
+        value: _,
+        next: first,
+    } = varint::read(leaf, 0)
+    else {
+        return WordAnswer::Nothing { read: 0 };
+    };
+    let mut read: u64 = HEIGHT_NUMBERS;
+    let mut numbers: u64 = FIRST_NUMBERS;
     let mut same: usize = 0;
-    let mut i = leaf::FIRST_WORD;
+    let mut i = first;
     while i < leaf.len() {
         let Head::Found {
             prefix,
@@ -101,8 +125,10 @@ fn seek(leaf: &[u8], word: &[u8]) -> WordAnswer
             next,
         } = leaf::head_at(leaf, i)
         else {
-            return WordAnswer::Nothing;
+            return WordAnswer::Nothing { read };
         };
+        read += numbers;
+        numbers = LATER_NUMBERS;
         let to = from + size;
         match stands(word, same, prefix, &leaf[from..to]) {
             Order::Less(n) => {
@@ -112,15 +138,16 @@ fn seek(leaf: &[u8], word: &[u8]) -> WordAnswer
                 return WordAnswer::Found {
                     start: list,
                     size: next - list,
+                    read,
                 };
             }
             Order::Greater => {
-                return WordAnswer::Nothing;
+                return WordAnswer::Nothing { read };
             }
         }
         i = next;
     }
-    WordAnswer::Nothing
+    WordAnswer::Nothing { read }
 }
 
 // The posting list of a word in one leaf.
@@ -145,8 +172,12 @@ pub fn word_number(answer: WordAnswer) -> u32
     ensures { λ r. ⌜ r ≡ wordNumbers answer .number ⌝ }
 {
     match answer {
-        WordAnswer::Found { start: _, size: _ } => ACCEPTED,
-        WordAnswer::Nothing => ACCEPTED,
+        WordAnswer::Found {
+            start: _,
+            size: _,
+            read: _,
+        } => ACCEPTED,
+        WordAnswer::Nothing { read: _ } => ACCEPTED,
         WordAnswer::Shape => SHAPE,
         WordAnswer::Broken => BROKEN,
     }
@@ -157,29 +188,55 @@ pub fn word_second(answer: WordAnswer) -> u64
     ensures { λ r. ⌜ r ≡ wordNumbers answer .second ⌝ }
 {
     match answer {
-        WordAnswer::Found { start: _, size } => size as u64,
-        WordAnswer::Nothing => 0,
+        WordAnswer::Found {
+            start: _,
+            size,
+            read: _,
+        } => size as u64,
+        WordAnswer::Nothing { read: _ } => 0,
+        WordAnswer::Shape => 0,
+        WordAnswer::Broken => 0,
+    }
+}
+
+// How many stored numbers were read outside posting lists.
+pub fn word_read(answer: WordAnswer) -> u64
+    ensures { λ r. ⌜ r ≡ wordRead answer ⌝ }
+{
+    match answer {
+        WordAnswer::Found {
+            start: _,
+            size: _,
+            read,
+        } => read,
+        WordAnswer::Nothing { read } => read,
         WordAnswer::Shape => 0,
         WordAnswer::Broken => 0,
     }
 }
 
 // The posting list of a word in one leaf, as a part of it; the empty part where there is none. `number` and `second` get
-// the answer's two numbers.
+// the answer's two numbers, `read` the numbers read.
 pub fn lookup<'a>(
     leaf: &'a [u8],
     columns: u32,
     word: &[u8],
     number: &mut u32,
     second: &mut u64,
+    read: &mut u64,
 ) -> &'a [u8]
-    ensures { λ r. ⌜ WordGiven columns (now (leaf .entry)) (now (word .entry)) (now r) (now (number .exit)) (now (second .exit)) ⌝ }
+    ensures { λ r. ⌜ WordGiven columns (now (leaf .entry)) (now (word .entry)) (now r) (now (number .exit)) (now (second .exit)) (now (read .exit)) ⌝ }
 {
     let answer = find_list(leaf, columns, word);
     *number = word_number(answer);
     *second = word_second(answer);
+    *read = word_read(answer);
     match answer {
-        WordAnswer::Found { start, size } => {
+        WordAnswer::Found {
+            start,
+            size,
+            read: _,
+        } => {
             let end = start + size;
             &leaf[start..end]
         }
@@ -208,7 +265,12 @@ fn entry_in(leaf: &[u8], columns: u64, word: &[u8], docid: u64) -> EntryAt
     requires { ⌜ (0 < length (now word)) × ((ts : List Term) × LeafIs columns (now leaf) ts) ⌝ }
     ensures { λ r. ⌜ ((ts : List Term) → LeafIs columns (now (leaf .entry)) ts → EntryFound ts (now (word .entry)) docid r) ⌝ }
 {
-    let WordAnswer::Found { start, size } = seek(leaf, word) else {
+    let WordAnswer::Found {
+        start,
+        size,
+        read: _,
+    } = seek(leaf, word)
+    else {
         return EntryAt::Absent;
     };
     let end = start + size;

@@ -14,16 +14,20 @@ word-second-requires c κs = search needs
 word-start-requires : tie.Need-word-start-requires
 word-start-requires c κs = search needs
 
+word-read-requires : tie.Need-word-read-requires
+word-read-requires c κs = search needs
+
 word-number-requires : tie.Need-word-number-requires
 word-number-requires c κs = search needs
 
 returns : tie.Need-returns
 returns c =
     record {
-      answer = c .before .before .before .find-list .result;
-      right = c .before .before .before .find-list .ensures (c .before .before .before .find-list .result) .0 refl;
-      numbers-are = ap₂ numbers (c .word-number .ensures) (c .before .before .word-second .ensures);
-      start-is = c .before .word-start .ensures;
+      answer = c .before .before .before .before .find-list .result;
+      right = c .before .before .before .before .find-list .ensures (c .before .before .before .before .find-list .result) .0 refl;
+      numbers-are = ap₂ numbers (c .word-number .ensures) (c .before .before .before .word-second .ensures);
+      start-is = c .before .before .word-start .ensures;
+      read-are = c .before .word-read .ensures;
     }
 
 pub fts4-lookup-spec : {M : Type 1} → statement M
@@ -33,5 +37,6 @@ fts4-lookup-spec =
     find-list-requires
     word-second-requires
     word-start-requires
+    word-read-requires
     word-number-requires
     returns)

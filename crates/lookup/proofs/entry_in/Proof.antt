@@ -25,7 +25,7 @@ add-end : tie.Need-add-end
 add-end c =
     let a = c .before .before .before .before .before .before .args in
     let v = c .before .start .given .0 in
-    let l : (ts : List Term) → LeafIs (a .columns) (a .leaf .now) ts → ListIs ts (a .word .now) (v .0) (v .1 .0) = λ ts g. subst (WordFound ts (a .word .now)) (c .before .start .given .1) (c .before .before .before .seek .ensures (a .columns) ts g) in
+    let l : (ts : List Term) → LeafIs (a .columns) (a .leaf .now) ts → ListIs ts (a .word .now) (v .0) (v .1 .0) = λ ts g. subst (WordFound ts (a .word .now)) (c .before .start .given .1) (c .before .before .before .seek .ensures (a .columns) ts g) .0 in
     let p = c .before .before .before .before .before .before .pre .1 in
     omega (arith, l (p .0) (p .1) .inside, ap length (p .1 .bytes), c .before .before .before .before .before .before .good .0 .0)
 
@@ -39,7 +39,7 @@ part-find-end : tie.Need-part-find-end
 part-find-end c =
     let a = c .before .before .before .before .before .before .args in
     let v = c .before .start .given .0 in
-    let l : (ts : List Term) → LeafIs (a .columns) (a .leaf .now) ts → ListIs ts (a .word .now) (v .0) (v .1 .0) = λ ts g. subst (WordFound ts (a .word .now)) (c .before .start .given .1) (c .before .before .before .seek .ensures (a .columns) ts g) in
+    let l : (ts : List Term) → LeafIs (a .columns) (a .leaf .now) ts → ListIs ts (a .word .now) (v .0) (v .1 .0) = λ ts g. subst (WordFound ts (a .word .now)) (c .before .start .given .1) (c .before .before .before .seek .ensures (a .columns) ts g) .0 in
     let p = c .before .before .before .before .before .before .pre .1 in
     omega (arith, l (p .0) (p .1) .inside, ap length (p .1 .bytes))
 
@@ -53,14 +53,14 @@ returns-2 : tie.Need-returns-2
 returns-2 c =
     let a = c .before .before .before .before .before .before .before .before .before .args in
     let v = c .before .before .before .before .start .given .0 in
-    let l : (ts : List Term) → LeafIs (a .columns) (a .leaf .now) ts → ListIs ts (a .word .now) (v .0) (v .1 .0) = λ ts g. subst (WordFound ts (a .word .now)) (c .before .before .before .before .start .given .1) (c .before .before .before .before .before .before .seek .ensures (a .columns) ts g) in
+    let l : (ts : List Term) → LeafIs (a .columns) (a .leaf .now) ts → ListIs ts (a .word .now) (v .0) (v .1 .0) = λ ts g. subst (WordFound ts (a .word .now)) (c .before .before .before .before .start .given .1) (c .before .before .before .before .before .before .seek .ensures (a .columns) ts g) .0 in
     λ ts g. list-no-entry (a .columns) (a .leaf .now) (a .docid) g (l ts g) (c .before .find .ensures .1) (c .match2 .keys2)
 
 add-t13 : tie.Need-add-t13
 add-t13 c =
     let a = c .before .before .before .before .before .before .before .before .before .before .before .args in
     let v = c .before .before .before .before .before .before .start .given .0 in
-    let l : (ts : List Term) → LeafIs (a .columns) (a .leaf .now) ts → ListIs ts (a .word .now) (v .0) (v .1 .0) = λ ts g. subst (WordFound ts (a .word .now)) (c .before .before .before .before .before .before .start .given .1) (c .before .before .before .before .before .before .before .before .seek .ensures (a .columns) ts g) in
+    let l : (ts : List Term) → LeafIs (a .columns) (a .leaf .now) ts → ListIs ts (a .word .now) (v .0) (v .1 .0) = λ ts g. subst (WordFound ts (a .word .now)) (c .before .before .before .before .before .before .start .given .1) (c .before .before .before .before .before .before .before .before .seek .ensures (a .columns) ts g) .0 in
     let p = c .before .before .before .before .before .before .before .before .before .before .before .pre .1 in
     let m = list-entry-most (a .columns) (a .leaf .now) (a .docid) (p .1) (l (p .0) (p .1)) (c .before .before .before .find .ensures .1) (c .before .first .given .1) in
     omega (arith, l (p .0) (p .1) .inside, ap length (p .1 .bytes), c .before .before .before .before .before .before .before .before .before .before .before .good .0 .0)
@@ -69,7 +69,7 @@ add-t16 : tie.Need-add-t16
 add-t16 c =
     let a = c .before .before .before .before .before .before .before .before .before .before .before .args in
     let v = c .before .before .before .before .before .before .start .given .0 in
-    let l : (ts : List Term) → LeafIs (a .columns) (a .leaf .now) ts → ListIs ts (a .word .now) (v .0) (v .1 .0) = λ ts g. subst (WordFound ts (a .word .now)) (c .before .before .before .before .before .before .start .given .1) (c .before .before .before .before .before .before .before .before .seek .ensures (a .columns) ts g) in
+    let l : (ts : List Term) → LeafIs (a .columns) (a .leaf .now) ts → ListIs ts (a .word .now) (v .0) (v .1 .0) = λ ts g. subst (WordFound ts (a .word .now)) (c .before .before .before .before .before .before .start .given .1) (c .before .before .before .before .before .before .before .before .seek .ensures (a .columns) ts g) .0 in
     let p = c .before .before .before .before .before .before .before .before .before .before .before .pre .1 in
     let m = list-entry-most (a .columns) (a .leaf .now) (a .docid) (p .1) (l (p .0) (p .1)) (c .before .before .before .find .ensures .1) (c .before .first .given .1) in
     omega (arith, l (p .0) (p .1) .inside, ap length (p .1 .bytes), c .before .before .before .before .before .before .before .before .before .before .before .good .0 .0)
@@ -78,7 +78,7 @@ returns-3 : tie.Need-returns-3
 returns-3 c =
     let a = c .before .before .before .before .before .before .before .before .before .before .before .args in
     let v = c .before .before .before .before .before .before .start .given .0 in
-    let l : (ts : List Term) → LeafIs (a .columns) (a .leaf .now) ts → ListIs ts (a .word .now) (v .0) (v .1 .0) = λ ts g. subst (WordFound ts (a .word .now)) (c .before .before .before .before .before .before .start .given .1) (c .before .before .before .before .before .before .before .before .seek .ensures (a .columns) ts g) in
+    let l : (ts : List Term) → LeafIs (a .columns) (a .leaf .now) ts → ListIs ts (a .word .now) (v .0) (v .1 .0) = λ ts g. subst (WordFound ts (a .word .now)) (c .before .before .before .before .before .before .start .given .1) (c .before .before .before .before .before .before .before .before .seek .ensures (a .columns) ts g) .0 in
     λ ts g. list-entry (a .columns) (a .leaf .now) (a .docid) g (l ts g) (c .before .before .before .find .ensures .1) (c .before .first .given .1)
 
 pub entry-in-spec : {M : Type 1} → statement M
