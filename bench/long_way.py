@@ -1,5 +1,5 @@
 #!/usr/bin/env python3
-"""Copies the crates that a check of a leaf stands on, and lets `varint::read` go the long way alone: byte by byte.
+"""Copies the libraries that the benchmark measures with all that they stand on, and lets `varint::read` go the long way alone: byte by byte.
 
     python3 bench/long_way.py FOLDER
 
@@ -9,7 +9,7 @@ import os
 import shutil
 import sys
 
-CRATES = ("common", "varint", "doclist", "leaf", "timing")
+MEASURED = ("fts4box", "timing")
 
 PROOF = """-- `read` meets its contract: it is `read_long`.
 use borrow.Author.Needs.{needs}
@@ -38,12 +38,24 @@ def long_only(code):
     return head + "pub fn read(" + contract + "\n{\n" + last + "\n}\n" + rest
 
 
+def needed(lines):
+    """The lines of crates.txt for what is measured and what that stands on; the lowest crate is listed first."""
+    wanted, kept = set(MEASURED), []
+    for line in reversed(lines):
+        crate, _, below = line.partition(":")
+        if crate in wanted:
+            wanted.update(below.split())
+            kept.insert(0, line)
+    if len(kept) != len(wanted):
+        sys.exit("bench/long_way.py: crates.txt does not list all of %s" % ", ".join(sorted(wanted)))
+    return kept
+
+
 def main(folder):
     with open("crates.txt") as f:
-        listed = [line for line in f if line.split(":")[0] in CRATES]
-    if len(listed) != len(CRATES):
-        sys.exit("bench/long_way.py: crates.txt does not list %s" % ", ".join(CRATES))
-    for crate in CRATES:
+        listed = needed(f.readlines())
+    for line in listed:
+        crate = line.split(":")[0]
         shutil.copytree(os.path.join("crates", crate), os.path.join(folder, "crates", crate))
     with open(os.path.join(folder, "crates.txt"), "w") as f:
         f.writelines(listed)

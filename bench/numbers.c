@@ -1,7 +1,10 @@
 /* Measures the reading of all numbers of a leaf, and its check, the short way and the long way alone. Both in one run, interleaved;
  * the best of each counts.
  *
- *     numbers SHORT LONG LEAF PLACES    shared libraries with the calls of crate timing; a leaf; where its numbers stand
+ *     numbers SHORT TIMED LONG TIMED LEAF PLACES
+ *
+ * SHORT and LONG: the product's library each way, for the check; behind each crate timing as a library, for the reading of numbers;
+ * a leaf; where its numbers stand.
  */
 #include <dlfcn.h>
 #include <stdint.h>
@@ -13,7 +16,7 @@
 enum { ROUNDS = 3000, WAYS = 2, MAX_BYTES = 65536, COLUMNS = 3, ACCEPTED = 0, TOP_BIT = 0x80 };
 
 typedef uint64_t numbers_call(const uint8_t *, size_t, const uint32_t *, size_t);
-typedef uint32_t check_call(const uint8_t *, size_t, uint32_t);
+typedef uint32_t check_call(const uint8_t *, size_t, uint32_t, uint64_t *);
 
 static uint8_t leaf[MAX_BYTES];
 static uint32_t places[MAX_BYTES];
@@ -25,16 +28,13 @@ static void fail(const char *what)
     exit(2);
 }
 
-static void load(const char *path, numbers_call **numbers, check_call **check)
+static void load(const char *path, const char *name, void *call)
 {
     void *library = dlopen(path, RTLD_NOW | RTLD_LOCAL);
-    if (!library)
+    void *found = library ? dlsym(library, name) : NULL;
+    if (!found)
         fail(dlerror());
-    void *first = dlsym(library, "timed_numbers"), *second = dlsym(library, "timed_check");
-    if (!first || !second)
-        fail("the library has not the calls of crate timing");
-    memcpy(numbers, &first, sizeof first);
-    memcpy(check, &second, sizeof second);
+    memcpy(call, &found, sizeof found);
 }
 
 static size_t contents(const char *path, void *room, size_t item, size_t most)
@@ -63,14 +63,16 @@ static void row(const char *what, const double best[WAYS])
 
 int main(int argc, char **argv)
 {
-    if (argc != 5)
-        fail("usage: numbers SHORT LONG LEAF PLACES");
+    if (argc != 7)
+        fail("usage: numbers SHORT TIMED LONG TIMED LEAF PLACES");
     numbers_call *numbers[WAYS];
     check_call *check[WAYS];
-    for (int k = 0; k < WAYS; k++)
-        load(argv[1 + k], &numbers[k], &check[k]);
-    size = contents(argv[3], leaf, 1, sizeof leaf);
-    count = contents(argv[4], places, sizeof *places, MAX_BYTES);
+    for (int k = 0; k < WAYS; k++) {
+        load(argv[1 + 2 * k], "fts4_check", &check[k]);
+        load(argv[2 + 2 * k], "timed_numbers", &numbers[k]);
+    }
+    size = contents(argv[5], leaf, 1, sizeof leaf);
+    count = contents(argv[6], places, sizeof *places, MAX_BYTES);
 
     size_t one_byte = 0;
     for (size_t i = 0; i < count; i++)
@@ -86,7 +88,8 @@ int main(int argc, char **argv)
             if (numbers[k](leaf, size, places, count) != sum)
                 fail("the numbers are read otherwise the second time");
             double between = now();
-            if (check[k](leaf, size, COLUMNS) != ACCEPTED)
+            uint64_t second;
+            if (check[k](leaf, size, COLUMNS, &second) != ACCEPTED)
                 fail("the leaf is refused");
             double end = now();
             if (between - start < reading[k])

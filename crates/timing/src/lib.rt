@@ -1,10 +1,8 @@
-// Calls that only the benchmark links (bench/numbers.sh): the check of a leaf, and the reading of stored numbers at given places.
-// Built over the reader as it is and over one that goes the long way alone, they tell what the short way is worth.
-use leaf::LeafCheck;
+// The call that only the benchmark links (bench/numbers.sh): the reading of stored numbers at given places. Built over the reader as
+// it is and over one that goes the long way alone, it tells what the short way is worth.
 use varint::Varint;
 ghost use mathlib.Core.Path.{_≡_};
 ghost use Prim.Native.Nat.{_%_, _^_, _<_};
-ghost use Rattle.leaf.specs.Answers.{checkLeaf, checkNumbers};
 ghost use Rattle.timing.specs.Numbers.{numberAt, sumAt};
 
 // The number at a place, or 0.
@@ -30,16 +28,4 @@ pub extern "C" fn timed_numbers(s: &[u8], places: &[u32]) -> u64
         i += 1;
     }
     sum
-}
-
-// The number that answers the check of a leaf.
-#[no_mangle]
-pub extern "C" fn timed_check(leaf: &[u8], columns: u32) -> u32
-    ensures { λ r. ⌜ r ≡ checkNumbers (checkLeaf columns (now (leaf .entry))) .number ⌝ }
-{
-    match leaf::check(leaf, columns) {
-        LeafCheck::Accepted => 0,
-        LeafCheck::Shape => 1,
-        LeafCheck::Broken => 3,
-    }
 }
