@@ -4,12 +4,14 @@
 
 #include <string.h>
 
-enum { MAX_WORD = 64, MAX_NUMBER_BYTES = 9 };
+enum { MAX_WORD = 64, MAX_NUMBER_BYTES = 10 };
 
 static const uint64_t POSITION_LIMIT = UINT64_C(1) << 31;
-static const uint64_t DOCID_LIMIT = UINT64_C(1) << 63;
+/* docids are ordered by their keys: the docid plus 2^63, modulo 2^64 */
+static const uint64_t KEY_OF_0 = UINT64_C(1) << 63;
 
-/* Reads the number at *at; 0 where there is none in its shortest form. */
+/* Reads the number at *at; 0 where there is none in its shortest form. Ten bytes, the last 1, are for docids alone: each other
+ * number has a limit of its own, far below 2^63. */
 static int number(const uint8_t *s, size_t n, size_t *at, uint64_t *value)
 {
     uint64_t v = 0;
@@ -25,7 +27,7 @@ static int number(const uint8_t *s, size_t n, size_t *at, uint64_t *value)
             return 0;
         v |= (uint64_t)(s[i] & 127) << (7 * k);
         if (s[i] < 128) {
-            if (s[i] == 0)
+            if (s[i] == 0 || (k == MAX_NUMBER_BYTES - 1 && s[i] > 1))
                 return 0;
             *value = v;
             *at = i + 1;
@@ -43,11 +45,9 @@ static int columns_of_entry(const uint8_t *s, size_t n, size_t *at, uint64_t col
         if (!number(s, n, at, &v))
             return 0;
         if (v >= 2) {
-            if (some && v < 3)
+            if ((some && v < 3) || v - 2 >= POSITION_LIMIT - position)
                 return 0;
             position += v - 2;
-            if (position >= POSITION_LIMIT)
-                return 0;
             some = 1;
             continue;
         }
@@ -66,18 +66,19 @@ static int columns_of_entry(const uint8_t *s, size_t n, size_t *at, uint64_t col
 static int doclist(const uint8_t *s, size_t n, uint64_t columns)
 {
     size_t at = 0;
-    uint64_t docid = 0, v;
-    if (n == 0)
+    uint64_t key, v;
+    if (!number(s, n, &at, &v))
         return 0;
-    while (at < n) {
-        int first = at == 0;
-        if (!number(s, n, &at, &v) || (!first && v == 0) || v >= DOCID_LIMIT - docid)
-            return 0;
-        docid += v;
+    key = KEY_OF_0 + v;
+    for (;;) {
         if (!columns_of_entry(s, n, &at, columns))
             return 0;
+        if (at == n)
+            return 1;
+        if (!number(s, n, &at, &v) || v == 0 || v > UINT64_MAX - key)
+            return 0;
+        key += v;
     }
-    return 1;
 }
 
 int PLAIN_CHECK(const uint8_t *s, size_t n, uint32_t columns)

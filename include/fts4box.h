@@ -34,8 +34,8 @@ extern "C" {
 #endif
 
 /* A change of a signature or of what a call answers raises the version. The number is 100 times its first part plus the second. */
-#define FTS4BOX_VERSION "1.3"
-#define FTS4BOX_VERSION_NUMBER 103
+#define FTS4BOX_VERSION "1.4"
+#define FTS4BOX_VERSION_NUMBER 104
 
 /* The bounds: what is over one is refused. */
 #define FTS4_MAX_QUERY 512      /* bytes of a query */
@@ -54,7 +54,7 @@ extern "C" {
 
 enum {
     FTS4_ACCEPTED = 0, /* second: docids listed, bytes written, or bytes in the part */
-    FTS4_SHAPE = 1,    /* ends, names, counts, sizes, a negative docid or a word's length; second is 0 */
+    FTS4_SHAPE = 1,    /* ends, names, counts, sizes or a word's length; second is 0 */
     FTS4_QUERY = 2,    /* the query is not in the language or over a bound of it; second is 0 */
     FTS4_LEAF = 3,     /* a leaf breaks a rule; second is the first such leaf, counted from 0, newest first */
     FTS4_ROOM = 4,     /* the room is too small; second is what is needed */
@@ -75,8 +75,8 @@ uint32_t fts4_check(const uint8_t *leaf, size_t leaf_len, uint32_t columns, uint
 uint32_t fts4_lookup(const uint8_t *leaf, size_t leaf_len, uint32_t columns, const uint8_t *word, size_t word_len,
                      uint64_t *second, uint64_t *start, uint64_t *numbers_read);
 
-/* Looks for the entry that decides for a word and a docid of 0 or more: of the newer leaf if it has one, a deletion too, else of
- * the older. The two leaves have at most 65,536 bytes together.
+/* Looks for the entry that decides for a word and a docid: of the newer leaf if it has one, a deletion too, else of the older. The
+ * two leaves have at most 65,536 bytes together.
  *
  * Answers 0, 1 or 3 (with 0 for the newer leaf, 1 for the older). If the answer is 0 and *second is not 0, the entry is the
  * *second bytes from *start on of the newer (*leaf is 0) or the older leaf (*leaf is 1); otherwise there is none, and *leaf and
@@ -85,14 +85,14 @@ uint32_t fts4_deciding(const uint8_t *newer, size_t newer_len, const uint8_t *ol
                        const uint8_t *word, size_t word_len, int64_t docid,
                        uint64_t *second, uint32_t *leaf, uint64_t *start);
 
-/* Writes the leaf for one document: a docid of 0 or more and the texts of its 1 to 16 columns, together at most 4,096 bytes.
+/* Writes the leaf for one document: a docid and the texts of its 1 to 16 columns, together at most 4,096 bytes.
  *
  * Answers 0 with the bytes written, 0 bytes for a document without words; or, checked in this order, 1; 5 with the first column
  * that has a word over 64 bytes; 4 with the bytes needed. */
 uint32_t fts4_write(int64_t docid, const uint8_t *texts, size_t texts_len, const uint32_t *ends, size_t ends_len,
                     uint8_t *room, size_t room_len, uint64_t *second);
 
-/* Lists the docids of all rows that satisfy a query, rising, each once.
+/* Lists the docids of all rows that satisfy a query, rising as signed numbers, each once.
  *
  * Lent are 1 to 16 column names (1 to 32 ASCII letters, digits or _, no two equal when case is ignored), 0 to 8 leaves, newest
  * first and together at most 65,536 bytes, and a query of at most 512 bytes in the enhanced syntax.

@@ -1,4 +1,7 @@
-"""Generated rows of the columns node, sent and outcome, and generated queries over their words."""
+"""Generated docids, rows of the columns node, sent and outcome, and queries over their words."""
+LEAST_DOCID, TOP_DOCID = -2**63, 2**63 - 1
+# both sides of 0, and both ends of what a docid can be (document 02, section 9)
+EDGES = (LEAST_DOCID, LEAST_DOCID + 1, -1, 0, 1, TOP_DOCID - 1, TOP_DOCID)
 NODES = [b"n%d" % i for i in range(1, 13)]
 OUTCOMES = [b"reply", b"reply late", b"no reply, timeout", b"reply reply", b"late reply no timeout", b"No_Reply", b""]
 WORDS = [b"reply", b"late", b"no", b"timeout", b"re", b"rep", b"nor", b"caf\xc3\xa9"]
@@ -6,6 +9,17 @@ COLUMNS = [b"node", b"sent", b"outcome", b"Outcome", b"NODE"]
 FEW_WORDS = [b"no", b"reply", b"rep"]
 NEARS = [b" NEAR ", b" NEAR/0 ", b" NEAR/1 ", b" NEAR/2 ", b" NEAR/3 ", b" NEAR/12 "]
 OPERATORS = [b" AND ", b" OR ", b" NOT ", b" ", b"  ", b"\t"]
+
+
+def any_docid(rng):
+    """A docid of any size and either sign."""
+    size = 2 ** rng.randrange(1, 64)
+    return rng.choice(EDGES) if rng.randrange(3) == 0 else rng.randrange(-size, size)
+
+
+def some_docid(rng, near):
+    """A docid from `-near` up to `near` mostly, so that one comes again."""
+    return rng.randrange(-near, near) if rng.randrange(4) else any_docid(rng)
 
 
 def some_outcome(rng):

@@ -3,6 +3,7 @@ import random
 
 import reference
 from case_writer import CHECK, DECIDING, LOOKUP
+from generated import EDGES, LEAST_DOCID, TOP_DOCID, some_docid
 
 SEED = 20262
 
@@ -10,8 +11,8 @@ SEED = 20262
 P12 = bytes.fromhex(
     "00036e3132030702000005" "70726f6265050701010200" "0005" "7265706c79" "06" "070102020300"
 )
-TOP_DOCID = 2**63 - 1
 TOP_POSITION = 2**31 - 1
+MINUS_1 = bytes([255] * 9 + [1])
 
 
 def ask_check(cases, leaf, columns):
@@ -49,14 +50,14 @@ def lists(cases):
         (7, 2, 0), (7, 0), (7, 2, 0, 1, 0), (7, 2, 3, 0), (7, 1, 2, 2, 0), (7, 2, 1, 1, 2, 1, 2, 2, 0),
         (TOP_DOCID, 2, 0), (TOP_DOCID - 1, 0, 1, 0), (0, 0), (0, 2, 0, TOP_DOCID, 2, 0),
         (7, TOP_POSITION + 2, 0), (7, 2, TOP_POSITION + 2, 0), (7, 1, 15, 2, 0),
-        (7, 5, 1, 1, 2, 0), (7, 5, 3, 1, 1, 2, 0, 3, 0),
+        (7, 5, 1, 1, 2, 0), (7, 5, 3, 1, 1, 2, 0, 3, 0), (MINUS_1, 2, 0), (MINUS_1, 0, 1, 2, 0),
     ]
     broken = [
         (), (7,), (7, 2), (7, 1), (7, 1, 1), (7, 1, 1, 0), (7, 1, 0, 2, 0), (7, 1, 2, 0), (7, 1, 2, 2, 1, 1, 2, 0),
         (7, 1, 2, 2, 1, 2, 2, 0), (7, 1, 16, 2, 0), (7, 1, TOP_DOCID, 2, 0), (7, 2, 2, 0), (7, 2, 0, 0, 2, 0),
         (TOP_DOCID, 0, 1, 0), (1, 0, TOP_DOCID, 0), (7, TOP_POSITION + 3, 0), (7, 3, TOP_POSITION + 2, 0),
         (7, 2, 0, 1), (7, 2, 0, 1, 2), (7, 2, 1, 0), (7, 1, 1, 1, 2, 2, 0), (7, 1, 1, 2, 2, 0),
-        (bytes([0x87, 0x00]), 2, 0), (bytes([255] * 9 + [1]), 2, 0), (7, bytes([0x82, 0x00]), 0), (7, 2, bytes([0x80])),
+        (bytes([0x87, 0x00]), 2, 0), (7, bytes([0x82, 0x00]), 0), (7, 2, bytes([0x80])),
     ]
     for numbers in sound + broken:
         for columns in (1, 2, 3, 16):
@@ -95,6 +96,50 @@ def leaves(cases):
             ask_check(cases, P12[:at] + bytes([P12[at] ^ 1 << bit]) + P12[at + 1:], 3)
 
 
+def docids(cases):
+    """One, two and three of the edges in any order, by their differences modulo 2^64; and from each edge as far as the largest docid, and farther."""
+    for first in EDGES:
+        for entry in ((0,), (2, 0), (1, 1, 2, 0)):
+            ask_check(cases, leaf_of_list(varints(first % 2**64, *entry)), 2)
+        for second in EDGES:
+            ask_check(cases, leaf_of_list(varints(first % 2**64, 2, 0, (second - first) % 2**64, 0)), 1)
+            for third in EDGES:
+                numbers = first % 2**64, 0, (second - first) % 2**64, 2, 0, (third - second) % 2**64, 0
+                ask_check(cases, leaf_of_list(varints(*numbers)), 1)
+        for step in (0, 1, 2**62, 2**63 - 1, 2**63, 2**63 + 1, 2**64 - 2, 2**64 - 1):
+            ask_check(cases, leaf_of_list(varints(first % 2**64, 0, step, 0)), 1)
+        left = TOP_DOCID - first
+        for step in (left - 1, left, left + 1):
+            if 0 <= step < 2**64:
+                ask_check(cases, leaf_of_list(varints(first % 2**64, 0, step, 2, 0)), 1)
+
+
+def ten_bytes(cases):
+    """Numbers of nine bytes without a last, of ten and of more: of a first docid, of a later one, and where no docid stands."""
+    for front in (bytes([255] * 9), bytes([128] * 9)):
+        for last in (b"", b"\x00", b"\x01", b"\x02", b"\x7f", b"\x80", b"\xff", b"\x81\x00", b"\x81\x01", b"\x80\x01", b"\xff\x7f"):
+            number = front + last
+            for numbers in ((number, 0), (number, 2, 0, 1, 0), (LEAST_DOCID % 2**64, 0, number, 0), (MINUS_1, 0, number, 2, 0), (7, 0, number, 0)):
+                ask_check(cases, leaf_of_list(varints(*numbers)), 1)
+    doclist = varints(7, 2, 0)
+    term = varints(len(doclist), doclist)
+    for number in (MINUS_1, bytes([128] * 9 + [1]), bytes([255] * 8 + [127]), bytes([130] + [128] * 8 + [1])):
+        # after position 7 a step of 2^64 - 3 would lead to 4
+        for numbers in (
+            (7, number, 0), (7, 2, number, 0), (7, 9, number, 0), (7, TOP_POSITION + 2, number, 0), (7, 1, number, 2, 0), (7, 1, 1, number, 0), (7, 1, 1, 9, number, 0),
+            (7, 1, 1, 2, 1, number, 2, 0), (7, 2, number), (7, 2, 0, 1, number, 0),
+        ):
+            ask_check(cases, leaf_of_list(varints(*numbers)), 3)
+        for leaf in (
+            varints(number, 1, b"a") + term, varints(0, number, b"a") + term, varints(0, 1, b"a", number, doclist),
+            varints(0, 1, b"a") + term + varints(number, 1, b"b") + term, varints(0, 1, b"a") + term + varints(0, number, b"b") + term,
+            varints(0, 1, b"a") + term + varints(0, 1, b"b", number, doclist), number, varints(0, number), varints(0, 1, b"a", number),
+        ):
+            ask_check(cases, leaf, 3)
+            ask_lookup(cases, leaf, 3, b"a")
+            ask_deciding(cases, P12, leaf, 3, b"a", -1)
+
+
 def leaf_of_size(total):
     """A sound leaf of so many bytes, all deletions of one word, and that word."""
     doclist = reference.encode_doclist([(d, []) for d in range(1, (total - 8) // 2 + 1)])
@@ -113,9 +158,8 @@ def sizes(cases):
 
 
 def random_entries(rng, columns):
-    entries, docid = [], 0
-    for _ in range(rng.randrange(1, 5)):
-        docid += rng.choice((1, 2, 100, 2**20))
+    entries = []
+    for docid in sorted({some_docid(rng, 4) for _ in range(rng.randrange(1, 5))}):
         found = []
         for column in range(columns):
             if rng.randrange(3) == 0:
@@ -134,15 +178,17 @@ def random_leaf(rng, columns):
 def damaged(rng, leaf):
     data = bytearray(leaf)
     at = rng.randrange(len(data))
-    kind = rng.randrange(4)
+    kind = rng.randrange(5)
     if kind == 0:
         del data[at]
     elif kind == 1:
         data[at] = rng.randrange(256)
     elif kind == 2:
         data.insert(at, rng.choice((0, 1, 2, 128, rng.randrange(256))))
-    else:
+    elif kind == 3:
         del data[at:]
+    else:
+        data[at:at + 1] = MINUS_1
     return bytes(data)
 
 
@@ -151,7 +197,7 @@ def probes(leaf, columns):
     terms = reference.parse_leaf(leaf, columns) or []
     words = [term for term, _, _, _ in terms]
     docids = [docid for _, entries, _, _ in terms for docid, _ in entries]
-    return words + [b"a", b"\x00", b"zz", b"\xff\xff"], docids + [0, 5]
+    return words + [b"a", b"\x00", b"zz", b"\xff\xff"], docids + [0, -2, 5]
 
 
 def lookups(cases, rng):
@@ -198,18 +244,26 @@ def refusals(cases):
 
 
 def deletions(cases):
-    """A deletion in the newer leaf decides; so does an entry there."""
+    """A deletion in the newer leaf decides; so does an entry there. Then the same at each edge of what a docid can be."""
     live = reference.encode_leaf([(b"reply", [(7, [(2, [0, 1])]), (9, [(0, [3])])])])
     gone = reference.encode_leaf([(b"reply", [(7, [])]), (b"timeout", [(9, [(2, [0])])])])
     for newer, older in ((gone, live), (live, gone)):
         for word in (b"reply", b"timeout", b"repl", b"replyy"):
             for docid in (6, 7, 8, 9, 10):
                 ask_deciding(cases, newer, older, 3, word, docid)
+    live = reference.encode_leaf([(b"reply", [(docid, [(0, [n])]) for n, docid in enumerate(EDGES)])])
+    for deleted in (EDGES[::2], EDGES[1::2], EDGES[:1], EDGES[-1:]):
+        gone = reference.encode_leaf([(b"reply", [(docid, []) for docid in deleted])])
+        for newer, older in ((gone, live), (live, gone), (gone, gone)):
+            for docid in (*EDGES, LEAST_DOCID + 2, -2, 2, TOP_DOCID - 2):
+                ask_deciding(cases, newer, older, 3, b"reply", docid)
 
 
 def make(cases):
     rng = random.Random(SEED)
     lists(cases)
+    docids(cases)
+    ten_bytes(cases)
     leaves(cases)
     sizes(cases)
     lookups(cases, rng)

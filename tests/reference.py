@@ -1,10 +1,10 @@
 """A second program for the FTS4 leaf checker, lookup, leaf writer and search.
 
-It is written from document 01, "Build specification and rules", alone, in the
-order of that document, and gives the expected answers for comparison.  It aims
-at being plain rather than fast.  Refusals are answers, never exceptions.  What
-the tools need too (the readers of numbers, lists and leaves) is in
-tools/leaf_format.py.
+It is written from document 01, "Build specification and rules", and document 02,
+"Requested changes after the base", alone, in the order of document 01, and gives
+the expected answers for comparison.  It aims at being plain rather than fast.
+Refusals are answers, never exceptions.  What the tools need too (the readers of
+numbers, lists and leaves) is in tools/leaf_format.py.
 """
 
 from bisect import bisect_left
@@ -12,7 +12,7 @@ from bisect import bisect_left
 import paths  # noqa: F401
 import leaf_format
 from leaf_format import (
-    MAX_LEAF_BYTES, MAX_LEAVES, MAX_NUMBER, MAX_WORD_BYTES,
+    MAX_DOCID_BYTES, MAX_LEAF_BYTES, MAX_LEAVES, MAX_WORD_BYTES,
     columns_ok, fold, is_word_byte, live_entries, name_ok, next_run, shared_prefix, words,
 )
 
@@ -78,12 +78,10 @@ def column_of(names, name):
 
 
 def encode_varint(v):
-    """The shortest form of a number; None when it is not 0 to 2^63 - 1.
+    """The shortest form of a number.
 
-    Document 01, "Stored numbers".
+    Document 01, "Stored numbers"; document 02, section 9: a 64-bit number takes up to ten bytes.
     """
-    if not 0 <= v <= MAX_NUMBER:
-        return None
     out = bytearray()
     while v >= 128:
         out.append(128 + v % 128)
@@ -93,12 +91,11 @@ def encode_varint(v):
 
 
 def varint_size(v):
-    """How many bytes the shortest form has; None when there is no form.
+    """How many bytes the shortest form has.
 
     Document 01, "Stored numbers".
     """
-    encoded = encode_varint(v)
-    return None if encoded is None else len(encoded)
+    return len(encode_varint(v))
 
 
 def or_none(read, *arguments):
@@ -112,9 +109,9 @@ def or_none(read, *arguments):
 def read_varint(s, at):
     """The number stored at `at` and where it ends, or None when there is none.
 
-    Document 01, "Stored numbers".
+    Document 01, "Stored numbers"; document 02, section 9: one to ten bytes, below 2^64.
     """
-    return or_none(leaf_format.read_number, s, at)
+    return or_none(leaf_format.read_number, s, at, MAX_DOCID_BYTES)
 
 
 def write_varint(room, v):
@@ -123,8 +120,6 @@ def write_varint(room, v):
     Document 01, "Stored numbers".
     """
     encoded = encode_varint(v)
-    if encoded is None:
-        return "toolarge", 0, room
     if len(encoded) > len(room):
         return "noroom", len(encoded), room
     return "bytes", len(encoded), encoded + room[len(encoded):]
@@ -155,12 +150,13 @@ def parse_doclist(s, columns):
 def encode_doclist(entries):
     """The doclist of sound entries, docids, columns and positions rising.
 
-    Document 01, "A posting list".
+    Document 01, "A posting list"; document 02, section 9: docids and their
+    differences modulo 2^64.
     """
     out = bytearray()
     previous_docid = 0
     for docid, found in entries:
-        out += encode_varint(docid - previous_docid)
+        out += encode_varint((docid - previous_docid) % 2**64)
         previous_docid = docid
         for column, positions in found:
             if column > 0:
@@ -251,13 +247,14 @@ def document_terms(docid, texts):
 def write_leaf(docid, texts, ends, room_len):
     """The writer's answer and its room, checks 1, 5, 4 in that order.
 
-    Document 01, "Numbers of the answers" and "Words".
+    Document 01, "Numbers of the answers" and "Words"; document 02, section 9:
+    any docid.
     """
     empty = bytes(room_len)
     columns = cut(texts, ends)
     if columns is None or not columns_ok(len(columns)):
         return SHAPE, 0, empty
-    if len(texts) > MAX_DOCUMENT_BYTES or not 0 <= docid <= MAX_NUMBER:
+    if len(texts) > MAX_DOCUMENT_BYTES:
         return SHAPE, 0, empty
     for column, text in enumerate(columns):
         if any(len(word) > MAX_WORD_BYTES for _, _, word in words(text)):
@@ -298,10 +295,11 @@ def deciding(newer, older, columns, word, docid):
     """The deciding entry as (number, bytes, which leaf, start in that leaf).
 
     Document 01, "Lookups", two leaves; leaf and start are 0 for an empty part.
+    Document 02, section 9: any docid.
     """
     if not columns_ok(columns) or len(newer) + len(older) > MAX_LEAF_BYTES:
         return SHAPE, 0, 0, 0
-    if not 1 <= len(word) <= MAX_WORD_BYTES or not 0 <= docid <= MAX_NUMBER:
+    if not 1 <= len(word) <= MAX_WORD_BYTES:
         return SHAPE, 0, 0, 0
     for which, leaf in enumerate([newer, older]):
         if parse_leaf(leaf, columns) is None:
@@ -691,7 +689,8 @@ def leaves_ok(leaves, leaf_ends):
 def search(names, name_ends, leaves, leaf_ends, query, room_len):
     """The search's answer and its room, checks 1, 2, 3, 4 in that order.
 
-    Document 01, "Numbers of the answers" and "When a row satisfies a query".
+    Document 01, "Numbers of the answers" and "When a row satisfies a query";
+    document 02, section 9: docids rise as signed numbers.
     """
     empty = [0] * room_len
     if not names_ok(names, name_ends) or not leaves_ok(leaves, leaf_ends):

@@ -3,6 +3,7 @@ import random
 
 import reference
 from case_writer import SEARCH, joined
+from generated import EDGES, LEAST_DOCID, TOP_DOCID, some_docid
 
 SEED = 20265
 NAMES = [b"node", b"sent", b"outcome"]
@@ -26,9 +27,9 @@ def ask(cases, query, leaves, room, names=NAMES, name_ends=None, leaf_ends=None)
 
 
 def expect(cases, number, beside, after):
-    """The two numbers, the docids listed, and how many numbers after them are not 0."""
+    """The two numbers, the docids listed, each as its 64 bits, and how many numbers after them are not 0."""
     listed = after[:beside] if number == 0 else []
-    cases.expect(number, beside, *listed, sum(1 for d in after[len(listed):] if d != 0))
+    cases.expect(number, beside, *(docid % 2**64 for docid in listed), sum(1 for d in after[len(listed):] if d != 0))
 
 
 def ask_rooms(cases, query, leaves):
@@ -54,13 +55,13 @@ def probe(rng, docid):
 
 
 def indexes(cases, rng):
-    """Rows inserted, updated and deleted over several leaves."""
+    """Rows inserted, updated and deleted over several leaves, on both sides of 0."""
     for _ in range(40):
         rows, leaves = {}, []
         for _ in range(rng.randrange(1, 9)):
             fresh, gone = [], []
             for _ in range(rng.randrange(1, 5)):
-                docid = rng.randrange(1, 12)
+                docid = some_docid(rng, 6)
                 if docid in rows:
                     for word, _ in reference.document_terms(docid, rows[docid]):
                         gone.append((word, docid))
@@ -165,10 +166,90 @@ def ends(cases):
         ask_rooms(cases, query, [leaf])
 
 
+# document 02, section 9
+SIGNED = [
+    b"a", b"b", b"a b", b"a OR b", b"a NOT b", b"b NOT a", b"a NEAR b", b"a NEAR/0 b", b'"a b"', b"a*", b"a* NOT b", b"node:a sent:b", b"(a OR c) NOT (b NEAR c)",
+    b"absent OR c", b"a NOT absent", b"absent NOT a", b"b NEAR/1 a NEAR/0 c", b"a* OR b* OR c*",
+]
+
+
+def signs(cases):
+    """Rows below and above 0, the least and the largest: in one leaf, each in its own, by turns in two; each changed or deleted in a newer leaf."""
+    texts = [[b"a b", b"", b"c"], [b"a", b"b", b""], [b"b a c", b"", b""], [b"c", b"a b", b""], [b"a x b", b"c", b"ab"], [b"b", b"", b"a"], [b"a b c", b"b", b""]]
+    rows = list(zip(EDGES, texts))
+    other = [(docid, texts[-1 - n]) for n, docid in enumerate(EDGES)]
+    alone = [leaf_of([row]) for row in rows]
+    indexes = [
+        [leaf_of(rows)], alone, alone[::-1], [leaf_of(rows[::2]), leaf_of(rows[1::2])], [leaf_of(rows[3:]), leaf_of(rows[:4])], [leaf_of(other), leaf_of(rows)],
+        [leaf_of(other[:3]), leaf_of(other[-2:]), leaf_of(rows)], [leaf_of(rows[:3])], [leaf_of(rows[-3:]), leaf_of(other)],
+    ]
+    for leaves in indexes:
+        for query in SIGNED:
+            ask_rooms(cases, query, leaves)
+    for docid, text in rows:
+        words = [word for word, _ in reference.document_terms(docid, text)]
+        gone, some = leaf_of([], [(word, docid) for word in words]), leaf_of([(docid, [b"c", b"", b""])], [(b"a", docid)])
+        for leaves in ([gone, leaf_of(rows)], [some, leaf_of(rows)], [leaf_of(rows), gone], [gone, some, leaf_of(rows)], [some, gone, leaf_of(other)]):
+            for query in (b"a", b"a b", b"a NOT b", b"b NOT a", b"c OR a NEAR b"):
+                ask_rooms(cases, query, leaves)
+
+
+def last_docid(cases):
+    """The largest docid: the only row, deleted, live again, and after lists of newer leaves that have come to their end."""
+    row = [b"a b", b"", b"c"]
+    only, early, empty = leaf_of([(TOP_DOCID, row)]), leaf_of([(-5, row), (3, row)]), leaf_of([], [(word, -5) for word in (b"a", b"b", b"c")])
+    gone, later = leaf_of([], [(word, TOP_DOCID) for word in (b"a", b"b")]), leaf_of([(3, row), (TOP_DOCID, [b"", b"a", b"b"])], [(b"c", TOP_DOCID)])
+    for leaves in (
+        [only], [only] * 8, [early, only], [only, early], [early, early, only], [empty, early, only], [empty, only], [early] * 7 + [only],
+        [gone, only], [only, gone], [gone], [early, gone, only], [gone, early, only], [only, gone, early, only],
+        [later], [later, only], [early, later, only], [gone, later], [early, gone, early, later, empty, only],
+    ):
+        for query in SIGNED:
+            ask_rooms(cases, query, leaves)
+
+
+def many_lists(cases, rng):
+    """Many lists at once, of 40 words in up to 4 leaves: some end before the largest docid, some at it, by a deletion or not."""
+    words = [b"w%02d" % n for n in range(40)]
+    for _ in range(12):
+        leaves = []
+        for _ in range(rng.randrange(1, 5)):
+            lists = []
+            for word in words:
+                docids = sorted({rng.choice(EDGES) for _ in range(rng.randrange(4))})
+                entries = [(docid, [(rng.randrange(3), [rng.randrange(4)])] if rng.randrange(3) else []) for docid in docids]
+                lists += [(word, entries)] if entries else []
+            leaves.append(reference.encode_leaf(lists))
+        for query in (b"w*", b"w0* w1* w2* w3*", b"w0* NOT w1*", b"w1* NEAR/1 w3*", b"w15 OR w39", b"w05 w06", b"w00 NOT w39", b'"w* w2*"', b"w3* NOT (w0* OR w1*)"):
+            count = reference.search(*joined(NAMES), *joined(leaves), query, 0)[1]
+            for room in {max(count - 1, 0), count}:
+                ask(cases, query, leaves, room)
+
+
+def broken_docids(cases):
+    """Docids that do not rise as signed numbers, and numbers that are none, in one leaf among others."""
+    good = leaf_of([(LEAST_DOCID, [b"a", b"", b""]), (-1, [b"a", b"", b""]), (TOP_DOCID, [b"a", b"", b""])])
+    encode = reference.encode_varint
+    for doclist in (
+        encode(2**64 - 1) + b"\x02\x00" + encode(2**63 + 1) + b"\x02\x00", encode(2**63) + b"\x02\x00\x00\x02\x00",
+        encode(7) + b"\x02\x00" + encode(2**64 - 1) + b"\x02\x00",
+        b"\xff" * 9 + b"\x00\x02\x00", b"\xff" * 9 + b"\x02\x02\x00", b"\xff" * 9 + b"\x7f\x02\x00", b"\xff" * 10 + b"\x02\x00", b"\xff" * 10 + b"\x01\x02\x00",
+        b"\x07" + encode(2**64 - 1) + b"\x00", b"\x07\x01" + encode(2**64 - 1) + b"\x02\x00",
+    ):
+        bad = b"\x00\x01a" + encode(len(doclist)) + doclist
+        for leaves in ([bad], [good, bad], [bad, good], [good, good, bad, bad]):
+            for room in (0, 3):
+                ask(cases, b"a", leaves, room)
+
+
 def make(cases):
     rng = random.Random(SEED)
     positions(cases)
     ends(cases)
+    signs(cases)
+    last_docid(cases)
+    many_lists(cases, rng)
+    broken_docids(cases)
     indexes(cases, rng)
     shapes(cases)
     faults(cases)

@@ -4,7 +4,7 @@
     python3 tests/test_box.py [CALLS [SEED]]
 
 Inputs, rooms and numbers lie against guard pages. The report counts by call and answer; each answer that a call can give must
-be at least 1 % of its cases.
+be at least 1 % of its cases, and so must answers on docids below 0; those on the least and the largest docid at least 0.1 %.
 """
 import collections
 import faulthandler
@@ -16,13 +16,13 @@ import query_cases
 import reference
 from box import Box
 from fts4box import joined
-from leaf_cases import TOP_DOCID, damaged, leaf_of_size, random_leaf
+from generated import EDGES, LEAST_DOCID, TOP_DOCID
+from leaf_cases import MINUS_1, damaged, leaf_of_size, random_leaf
 from search_cases import NAMES, leaf_of, leaf_with
 from tally import Tally
 
 CALLS, SEED = 60000, 20266
-DOCIDS = (*range(30), 127, 128, 2**20, TOP_DOCID)
-LEAST_DOCID = -2**63
+DOCIDS = sorted({*range(-15, 15), -2**20, -129, -128, 127, 128, 2**20, *EDGES})
 
 
 def junk(rng, most=24):
@@ -34,14 +34,30 @@ def some_columns(rng):
     return rng.choice((1, 2, 3, 3, 16)) if rng.randrange(12) else rng.choice((0, 17, 2**31, 2**32 - 1))
 
 
+def docid_number(rng):
+    """The number of a docid, or of a difference, of any size; now and then ten bytes or more that are none."""
+    if rng.randrange(8) == 0:
+        return bytes([rng.choice((128, 255))] * 9) + rng.choice((b"\x00", b"\x01", b"\x02", b"\x7f", b"\xff", b"\x81\x01"))
+    return reference.encode_varint(rng.choice((1, 2**63 - 1, 2**63, 2**64 - 1, generated.any_docid(rng) % 2**64, generated.any_docid(rng) % 2**64)))
+
+
+def docids_leaf(rng):
+    """A leaf of one word whose docids may rise, fall or come again; seldom a position's number is one of ten bytes."""
+    bodies = [b"\x00", b"\x02\x00", b"\x03\x03\x00"] * 4 + [b"\x09" + MINUS_1 + b"\x00"]
+    doclist = b"".join(docid_number(rng) + rng.choice(bodies) for _ in range(rng.randrange(1, 4)))
+    return b"\x00\x01a" + reference.encode_varint(len(doclist)) + doclist
+
+
 def some_leaf(rng, columns):
     kind = rng.randrange(24)
     if kind == 0:
         return junk(rng)
     if kind == 1:
         return b"\x00" + junk(rng)
+    if kind < 5:
+        return docids_leaf(rng)
     leaf = random_leaf(rng, min(max(columns, 1), 16))
-    return damaged(rng, leaf) if kind < 8 else leaf
+    return damaged(rng, leaf) if kind < 10 else leaf
 
 
 def content(leaf):
@@ -50,13 +66,13 @@ def content(leaf):
 
 
 def some_word(rng, terms):
-    """A word of a leaf mostly, with a docid of its list; else one of another length or with other bytes."""
+    """A word of a leaf mostly, with a docid of its list, as often the first or the last; else one of another length or with other bytes."""
     kind = rng.randrange(16)
     if kind == 0:
         return b"w" * rng.choice((0, 64, 65, 200)), 1
     if terms and kind < 13:
         word, docids = rng.choice(terms)
-        return word, rng.choice(docids)
+        return word, rng.choice((docids[0], docids[-1], rng.choice(docids)))
     return bytes(rng.choice(b"\x00abz\xff") for _ in range(rng.randrange(1, 4))), 1
 
 
@@ -77,7 +93,7 @@ def deciding(rng):
     word, docid = some_word(rng, content(newer) + content(older))
     kind = rng.randrange(16)
     if kind < 4:
-        docid = docid + 1 if kind else rng.choice((-1, LEAST_DOCID, TOP_DOCID))
+        docid = min(docid + 1, TOP_DOCID) if kind else rng.choice(EDGES)
     return newer, older, columns, word, docid
 
 
@@ -116,7 +132,7 @@ def some_texts(rng):
 def write(rng):
     texts, ends = joined(some_texts(rng))
     ends = some_ends(rng, texts, ends)
-    docid = rng.choice((0, 1, 7, 128, 2**40, TOP_DOCID)) if rng.randrange(20) else rng.choice((-1, LEAST_DOCID))
+    docid = rng.choice((0, 7, 128, rng.choice(EDGES), generated.any_docid(rng)))
     if rng.randrange(2):
         return docid, texts, ends, rng.randrange(400)
     need = reference.write_leaf(docid, texts, ends, 0)[1]
@@ -202,6 +218,21 @@ def large(tally, box):
                     tally.check("search in %d bytes" % total, box.search(*asked), reference.search(*asked))
 
 
+def many_lists(tally, box):
+    """A leaf full of short lists that begin or end at the least docid, at -1 and at the largest."""
+    entries = [(LEAST_DOCID, [(1, [3])]), (-1, []), (TOP_DOCID, [(0, [0])])]
+    wide = reference.encode_leaf([(b"w%04d" % n, entries[n % 3:]) for n in range(2300)])
+    tally.check("bytes of the leaf with many lists", 60000 < len(wide) <= 65536, True)
+    for query in (b"w*", b"w0* NOT absent", b"w0* NEAR/3 w1*", b"node:w2*", b"w2298 NOT w2297", b"w2297 w2298", b"w2298 w2299"):
+        for room in (1, 2):
+            asked = *joined(NAMES), *joined([wide]), query, room
+            tally.check("search in many lists", box.search(*asked), reference.search(*asked))
+    for n in (0, 1, 2, 2299):
+        for docid in (LEAST_DOCID, -1, 0, TOP_DOCID):
+            asked = wide, b"\x00\x01a\x02\x00\x00", 3, b"w%04d" % n, docid
+            tally.check("deciding in many lists", box.deciding(*asked), reference.deciding(*asked))
+
+
 def long_leaf(rng):
     """A few rows with thousands of positions, up to the largest, of index words that begin alike."""
     words = sorted(rng.sample([b"a", b"aa", b"ab", b"b", b"ba"] + [b"a%d" % i for i in range(10, 60)], rng.choice((2, 4, 40))))
@@ -244,17 +275,43 @@ SECOND = {
 POSSIBLE = {"check": (0, 1, 3), "lookup": (0, 1, 3), "deciding": (0, 1, 3), "write": (0, 1, 4, 5), "search": (0, 1, 2, 3, 4)}
 # A check has nothing beside its answer; of the other calls' accepted cases some must find, write or list something.
 NOT_EMPTY = "0 and not empty"
+# What is found, written or listed has a docid below 0; the least one; the largest one.
+BELOW, LEAST, LARGEST = "0 and below 0", "0 and the least docid", "0 and the largest docid"
+WITH_DOCIDS = "deciding", "write", "search"
+
+
+def docids_of(name, asked, got):
+    """The docids of what a call found, wrote or listed."""
+    if got[0] != 0 or got[1] == 0:
+        return []
+    return got[2][:got[1]] if name == "search" else [asked[0] if name == "write" else asked[4]]
+
+
+def counted(counts, name, asked, got):
+    counts[got[0]] += 1
+    counts[NOT_EMPTY] += got[0] == 0 and got[1] > 0
+    if name in WITH_DOCIDS:
+        docids = docids_of(name, asked, got)
+        counts[BELOW] += any(docid < 0 for docid in docids)
+        counts[LEAST] += LEAST_DOCID in docids
+        counts[LARGEST] += TOP_DOCID in docids
+
+
+def kinds_of(name):
+    if name == "check":
+        return POSSIBLE[name]
+    return *POSSIBLE[name], NOT_EMPTY, *((BELOW, LEAST, LARGEST) if name in WITH_DOCIDS else ())
 
 
 def report(tally, counts):
     for name, numbers in POSSIBLE.items():
-        kinds = numbers if name == "check" else (*numbers, NOT_EMPTY)
+        kinds = kinds_of(name)
         total = sum(counts[name][n] for n in numbers)
         print("%s: %d calls; answer %s" % (name, total, ", ".join("%s: %d" % (kind, counts[name][kind]) for kind in kinds)))
         for kind in kinds:
-            if counts[name][kind] == 0 or counts[name][kind] * 100 < total:
+            if counts[name][kind] == 0 or counts[name][kind] * (1000 if kind in (LEAST, LARGEST) else 100) < total:
                 tally.fail("too few cases of %s answered %s" % (name, kind))
-        if set(counts[name]) - {*numbers, NOT_EMPTY}:
+        if {kind for kind in counts[name] if isinstance(kind, int)} - {*numbers}:
             tally.fail("%s has another answer" % name)
 
 
@@ -266,6 +323,7 @@ def main(words):
     box, tally = Box(), Tally()
     counts = {name: collections.Counter() for name in MADE}
     large(tally, box)
+    many_lists(tally, box)
     long_rows(tally, box, random.Random(seed))
     for i in range(calls):
         if i % 20000 == 0:
@@ -274,8 +332,7 @@ def main(words):
         asked = search(rng, pool) if name == "search" else MADE[name](rng)
         box.at_end, box.null = rng.randrange(4) != 0, rng.randrange(2) == 0
         got = getattr(box, name)(*asked)
-        counts[name][got[0]] += 1
-        counts[name][NOT_EMPTY] += got[0] == 0 and got[1] > 0
+        counted(counts[name], name, asked, got)
         if not tally.check((i, name, asked), got, SECOND[name](*asked)) and tally.failed > 10:
             break
     report(tally, counts)

@@ -24,11 +24,11 @@ def filled(path, page_size=65536, rows=200):
     base.execute("create virtual table probes using fts4(node, sent, outcome)")
     for i in range(4):
         base.execute("begin")
-        for docid in range(i * rows // 4, (i + 1) * rows // 4):
+        for docid in range(i * rows // 4 - rows // 2, (i + 1) * rows // 4 - rows // 2):
             outcome = ("reply", "reply late", "no reply, timeout", "ünode")[docid * 7 % 4]
             base.execute("insert into probes(docid, node, sent, outcome) values (?, ?, ?, ?)", (docid, "n%d" % (docid % 12), "t%d" % docid, outcome))
         base.execute("commit")
-    base.execute("delete from probes where docid % 9 = 4")
+    base.execute("delete from probes where abs(docid) % 9 = 4")
     return base
 
 

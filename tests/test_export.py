@@ -14,6 +14,8 @@ import export_leaves
 import fts4_schema
 import leaf_format
 import reference
+from generated import EDGES
+from leaf_cases import leaf_of_list, varints
 from tally import Tally
 
 TOOL = os.path.join(paths.TOOLS, "export_leaves.py")
@@ -78,6 +80,11 @@ def run(statement, *values):
     return lambda base: base.execute(statement, values)
 
 
+def stored(*numbers):
+    """Puts a leaf with one word and the list of these numbers in the place of each segment's."""
+    return run("update t_segdir set root = ?", leaf_of_list(varints(*numbers)))
+
+
 PLAIN = "create virtual table t using fts4(node, sent, outcome)"
 
 
@@ -112,8 +119,12 @@ REFUSALS = [
     (PLAIN, all_of(transactions(10, 60), run("insert into t(t) values ('merge=1,2')")), 512, ("partly merged", "--prepare")),
     (PLAIN, transactions(9), 65536, ("9 segments", "takes 8", "--prepare", "insert into \"t\"(\"t\") values ('optimize')")),
     (PLAIN, transactions(4, 800), 65536, ("bytes together", "65536", "--prepare", "3,200 rows")),
-    (PLAIN, row(-5, "reply"), 65536, ("level 0, index 0", "docid -5", "from 0 on", "word `n1`")),
     (PLAIN, row(5, "w" * 65), 65536, ("65 bytes", "w" * 65, "may have 64")),
+    # a docid again, one that falls past the largest, a number of 70 bits, ten bytes where no docid stands
+    (PLAIN, all_of(row(-5, "reply"), stored(2**64 - 1, 2, 0, 0, 2, 0)), 65536, ("word `w`", "docid -1", "do not rise", "damaged")),
+    (PLAIN, all_of(row(-5, "reply"), stored(7, 0, 2**63 - 7, 0)), 65536, ("word `w`", "docid 7", "do not rise", "damaged")),
+    (PLAIN, all_of(row(-5, "reply"), stored(2**70 - 1, 0)), 65536, ("word `w`", "more than 64 bits", "damaged")),
+    (PLAIN, all_of(row(-5, "reply"), stored(2**64 - 1, 2**64 - 1, 0)), 65536, ("word `w`", "docid -1", "more than 9 bytes", "damaged")),
     (PLAIN, all_of(one_transaction(3), run("update t_segdir set root = x'00'")), 65536, ("no word", "damaged")),
     (PLAIN, all_of(one_transaction(3), run("update t_segdir set root = substr(root, 1, length(root) - 1)")), 65536, ("word `timeout`", "past the leaf's end")),
     (PLAIN, all_of(one_transaction(3), run("update t_segdir set root = null")), 65536, ("damaged",)),
@@ -276,6 +287,42 @@ def bounds(tally):
         tally.check("the program on other columns", program_says(out), b"no leaf\n")
 
 
+def downward(count):
+    """So many rows in one transaction, numbered downward from -1: SQLite writes a segment for each."""
+    def fill(base):
+        base.execute("begin")
+        base.executemany(ROW, rows(range(-1, -count - 1, -1), "late"))
+        base.execute("commit")
+    return fill
+
+
+def edges(base):
+    base.executemany(ROW, rows(EDGES, "late"))
+
+
+def below_zero(tally):
+    """Docids below 0, alone and among others: plain where the segments are few enough, and prepared."""
+    fills = [
+        (downward(8), (), 8), (downward(8), ("--prepare",), 1), (downward(40), ("--prepare",), 1),
+        (edges, (), 7), (all_of(run("begin"), edges, run("commit")), (), 1),
+        (all_of(downward(6), run("delete from t where docid % 2"), row(7, "late")), (), 8),
+        (all_of(downward(12), run("delete from t where docid < -4")), ("--prepare",), 1),
+    ]
+    for fill, flags, leaves in fills:
+        with tempfile.TemporaryDirectory() as folder:
+            path, out = database(folder, PLAIN, fill), os.path.join(folder, "out")
+            base = connect(path)
+            theirs = [docid for (docid,) in base.execute("select docid from t where t match 'late' order by docid")]
+            base.close()
+            tally.check("rows below 0", theirs[0] < 0, True)
+            tally.check("exported", exported(path, "t", out, *flags), (EXPORTED, ""))
+            export = export_folder.read(out)
+            tally.check("its leaves", len(export.leaves), leaves)
+            tally.check("its docids", sorted(export_leaves.live_places(export.leaves, 3)[b"late"]), theirs)
+            if leaves == 1:
+                tally.check("the program", program_says(out), "".join("%s\n" % line for line in ["docs %d" % len(theirs), *theirs]).encode())
+
+
 # ---- written whole or not at all
 
 
@@ -297,7 +344,7 @@ def replaced(tally):
         tally.check("an empty folder", exported(path, "t", out, "--replace"), (EXPORTED, ""))
         earlier = export_folder.read(out)
         base = connect(path)
-        base.execute(ROW, (-1, "n1", "t1", "reply"))
+        base.execute(ROW, (9, "n1", "t1", "w" * 65))
         base.close()
         before = set(os.listdir(folder))
         status, message = exported(path, "t", out, "--replace")
@@ -457,7 +504,9 @@ def texts(tally):
 
 def main():
     tally = Tally()
-    for part in (refusals, unreadable, accepted, names_of_tables, values, order, bounds, replaced, write_fails, changed_nothing, prepared, damaged_folders, texts):
+    for part in (
+        refusals, unreadable, accepted, names_of_tables, values, order, bounds, below_zero, replaced, write_fails, changed_nothing, prepared, damaged_folders, texts,
+    ):
         part(tally)
     return tally.finish()
 

@@ -16,6 +16,7 @@ import export_leaves
 import reference
 from box import Box
 from fts4box import ARCHIVE
+from generated import EDGES
 from leaf_cases import leaf_of_size
 from tally import Tally
 
@@ -213,14 +214,16 @@ def box_refuses(place):
 def bounds(tally, program, box):
     """No leaf, one, 8; 16 columns; all bytes that are allowed and one more; as many rows as fit."""
     wide = ["c%d" % i for i in range(16)]
-    leaves = [(0, i, folders.written(box, i, [b"reply"] * 16)) for i in range(7, -1, -1)]
+    leaves = [(0, i, folders.written(box, i - 4, [b"reply"] * 16)) for i in range(7, -1, -1)]
     place = Place(tally, program, wide, leaves)
-    place.asked("8 leaves, 16 columns", listing(list(range(8))), query="c15:reply")
+    place.asked("8 leaves, 16 columns", listing(list(range(-4, 4))), query="c15:reply")
     place.asked("a 17th column", WRONG, folders.ended(folders.manifest(wide + ["c16"], leaves)))
     place.asked("no column", WRONG, folders.ended(folders.manifest([], leaves)))
     Place(tally, program, wide, leaves + [(1, 0, leaves[0][2])]).asked("a 9th leaf", WRONG, query="c15:reply")
     Place(tally, program, folders.BENCH, []).asked("no leaf", listing([]))
     Place(tally, program, folders.BENCH, [(3, 0, folders.written(box, 7, OLD_ROW))]).asked("one leaf, leaf0.bin", listing([7]))
+    edges = reference.encode_leaf([(b"reply", [(docid, [(0, [0])]) for docid in EDGES])])
+    Place(tally, program, folders.BENCH, [(0, 0, edges)]).asked("the least docid, the largest, and some between", listing(EDGES))
     small = folders.written(box, 7, OLD_ROW)
     for total, expected in ((65536, listing([7])), (65537, WRONG)):
         Place(tally, program, folders.BENCH, [(0, 0, small), (1, 0, leaf_of_size(total - len(small))[0])]).asked("%d bytes" % total, expected)
@@ -240,10 +243,10 @@ def real_exports(tally, program, leaves):
         base = sqlite3.connect(path, isolation_level=None)
         base.execute("pragma page_size=65536")
         base.execute("create virtual table \"50% probes\" using fts4(node, sent, outcome)")
-        for docid in range(6):
-            base.execute("insert into \"50% probes\"(docid, node, outcome) values (?, ?, ?)", (docid, "n%d" % docid, ("reply", "no reply, timeout")[docid % 2]))
+        for docid in range(-3, 3):
+            base.execute("insert into \"50% probes\"(docid, node, outcome) values (?, ?, ?)", (docid, "n%d" % (docid + 3), ("reply", "no reply, timeout")[docid % 2]))
         export_folder.write(theirs, export_leaves.export(path, "50% probes"))
-        for query in ("reply", "outcome:reply NOT outcome:timeout", "node:n3"):
+        for query in ("reply", "outcome:reply NOT outcome:timeout", "node:n1"):
             docids = [docid for (docid,) in base.execute("select docid from \"50% probes\" where \"50% probes\" match ? order by docid", (query,))]
             tally.check("an export, query " + query, ran(program, theirs, query), listing(docids))
         base.close()

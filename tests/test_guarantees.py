@@ -8,7 +8,7 @@ from paths import ROOT
 from tally import Tally
 
 PAGE = os.path.join("docs", "GUARANTEES.md")
-FUNCTION = re.compile(r"\b(\w+)::(\w+)")
+FUNCTION = re.compile(r"\b(\w+)::(?:\w+::)*(\w+)")
 PLACE = re.compile(r"(?:(\w+): )?\b(specs|proofs)/(\w+)(?:\.([\w'-]+))?")
 NAME = re.compile(r"\s*([\w'-]+)[.)]?\s*")
 

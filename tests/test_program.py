@@ -6,6 +6,7 @@ import sys
 import tempfile
 
 import reference
+from generated import EDGES
 from leaf_cases import P12, leaf_of_size
 from paths import PROGRAM
 from tally import Tally
@@ -52,7 +53,7 @@ def listing(docids):
 NO_LEAF, TOO_LARGE, BAD_QUERY, BAD_LEAF = b"no leaf\n", b"refused 1 0\n", b"refused 2 0\n", b"refused 3 0\n"
 LONG = b"reply" + b" " * 508
 OVER = leaf_of_size(65537)[0]
-TOP = reference.encode_leaf([(b"reply", [(0, [(0, [0])]), (2**63 - 1, [(0, [0])])])])
+SIGNS = reference.encode_leaf([(b"reply", [(docid, [(0, [0])]) for docid in (*EDGES[:2], -300, -10, -9, *EDGES[2:])])])
 
 # query, leaf, what the program writes
 CASES = [
@@ -60,7 +61,9 @@ CASES = [
     (b"reply\n", P12, b"docs 1\n7\n"),
     (b"outcome:REPLY node:n12", P12, b"docs 1\n7\n"),
     (b"reply" + b" " * 507, P12, b"docs 1\n7\n"),
-    (b"reply", TOP, listing([0, 2**63 - 1])),
+    (b"reply", SIGNS, listing([*EDGES[:2], -300, -10, -9, *EDGES[2:]])),
+    (b"reply", reference.encode_leaf([(b"reply", [(-1, [(0, [0])])])]), b"docs 1\n-1\n"),
+    (b"reply", reference.encode_leaf([(b"reply", [(-2**63, [(0, [0])])])]), b"docs 1\n-9223372036854775808\n"),
     (b"reply", many(4096), listing(range(1, 4097))),
     (b"absent", P12, b"docs 0\n"),
     (b"node:reply", P12, b"docs 0\n"),
@@ -74,6 +77,7 @@ CASES = [
     (CLOSED, P12, BAD_QUERY),
     (b"reply", P12[:-1], BAD_LEAF),
     (b"reply", b"", BAD_LEAF),
+    (b"reply", b"\x00\x05reply\x0c" + b"\xff" * 9 + b"\x02\x02\x00", BAD_LEAF),
     (b"reply", many(4097), b"refused 4 4097\n"),
     (b"reply", many(9000), b"refused 4 9000\n"),
     (b"reply", MISSING, NO_LEAF),

@@ -15,6 +15,7 @@ import time
 
 import reference as ref
 import sqlite_differences as differences
+from generated import LEAST_DOCID, TOP_DOCID, any_docid
 
 SEED = 20240607
 NAMES = [b"node", b"sent", b"outcome"]
@@ -73,7 +74,7 @@ def canon(query):
 
 
 def test_marked_examples():
-    """P1 to P15."""
+    """P1 to P15; P6 as document 02, section 9, has it."""
     h = bytes.fromhex
     check("P1", ref.encode_varint(43), h("2B"))
     check("P1", ref.read_varint(h("2B"), 0), (43, 1))
@@ -85,8 +86,10 @@ def test_marked_examples():
     check("P5", ref.encode_varint(2**63 - 1), b"\xff" * 8 + b"\x7f")
     check("P5", ref.read_varint(b"\xff" * 8 + b"\x7f", 0), (2**63 - 1, 9))
     for last in range(256):
-        check("P6", ref.read_varint(b"\xff" * 9 + bytes([last]), 0), None)
-        check("P6", ref.read_varint(b"\x80" * 9 + bytes([last]), 0), None)
+        check("P6", ref.read_varint(b"\xff" * 9 + bytes([last]), 0), (2**64 - 1, 10) if last == 1 else None)
+        check("P6", ref.read_varint(b"\x80" * 9 + bytes([last]), 0), (2**63, 10) if last == 1 else None)
+    check("P6", ref.encode_doclist([(-1, [])]), b"\xff" * 9 + h("01 00"))
+    check("P6", ref.parse_doclist(b"\xff" * 9 + h("01 00"), 3), [(-1, [])])
     check("P7", ref.parse_doclist(h("07 02 00"), 3), [(7, [(0, [0])])])
     check("P8", ref.parse_doclist(h("07 00"), 3), [(7, [])])
     check("P9", ref.parse_doclist(h("07 02 02 00"), 3), None)
@@ -145,12 +148,12 @@ def test_lent():
 
 def test_varints(rng):
     """Document 01, "Stored numbers"."""
-    for size in range(1, 10):
-        for v in (128 ** size - 1, 128 ** (size - 1) if size > 1 else 0):
+    for size in range(1, 11):
+        for v in (min(128 ** size, 2**64) - 1, 128 ** (size - 1) if size > 1 else 0):
             check("size", ref.varint_size(v), size)
             check("round", ref.read_varint(b"x" + ref.encode_varint(v) + b"y", 1), (v, size + 1))
     for _ in range(2000):
-        v = rng.randrange(2 ** rng.randrange(1, 64))
+        v = rng.randrange(2 ** rng.randrange(1, 65))
         encoded = ref.encode_varint(v)
         check("round", ref.read_varint(encoded, 0), (v, len(encoded)))
         check("short", ref.read_varint(encoded[:-1], 0), None)
@@ -162,13 +165,16 @@ def test_varints(rng):
             check("two bytes", read, (pair[0] - 128 + 128 * pair[1], 2))
         else:
             check("two bytes", read, None)
+    for v in (2**64, 2**70 - 1, 2**70, 2**77 - 1):
+        check("more than 64 bits", ref.read_varint(ref.encode_varint(v), 0), None)
     check("at the end", ref.read_varint(b"a", 1), None)
     check("past the end", ref.read_varint(b"a", 5), None)
     check("write", ref.write_varint(b"abc", 128), ("bytes", 2, b"\x80\x01c"))
     check("write", ref.write_varint(b"a", 128), ("noroom", 2, b"a"))
     check("write", ref.write_varint(b"", 0), ("noroom", 1, b""))
-    check("write", ref.write_varint(b"abc", 2**63), ("toolarge", 0, b"abc"))
-    check("write", ref.write_varint(b"", 2**64 - 1), ("toolarge", 0, b""))
+    check("write", ref.write_varint(b"abc", 2**63), ("noroom", 10, b"abc"))
+    check("write", ref.write_varint(b"x" * 9, 2**64 - 1), ("noroom", 10, b"x" * 9))
+    check("write", ref.write_varint(b"x" * 11, 2**64 - 1), ("bytes", 10, b"\xff" * 9 + b"\x01x"))
 
 
 def test_words():
@@ -194,9 +200,8 @@ def test_words():
 
 def random_entries(rng, columns, small):
     """Sound entries, with docids and positions of all sizes unless small."""
-    top_docid = 12 if small else 2 ** rng.randrange(4, 64)
     top_position = 10 if small else 2 ** rng.randrange(4, 32)
-    docids = sorted({rng.randrange(top_docid) for _ in range(rng.randrange(1, 5))})
+    docids = sorted({rng.randrange(-6, 6) if small else any_docid(rng) for _ in range(rng.randrange(1, 5))})
     entries = []
     for docid in docids:
         some = sorted(rng.sample(range(columns), rng.randrange(0, min(columns, 3) + 1)))
@@ -258,6 +263,11 @@ def test_round_trips(rng):
             check("one form", ref.encode_doclist(entries), junk)
 
 
+# Numbers of ten bytes, as docids -1 and the least one.
+MINUS_1 = "FF FF FF FF FF FF FF FF FF 01"
+LEAST = "80 80 80 80 80 80 80 80 80 01"
+
+
 def test_rules():
     """Single rules of a posting list and of a leaf."""
     h = bytes.fromhex
@@ -272,6 +282,15 @@ def test_rules():
         ("FF FF FF FF FF FF FF FF 7F 00", 3, True),
         ("FF FF FF FF FF FF FF FF 7F 00 01 00", 3, False),
         ("FE FF FF FF FF FF FF FF 7F 00 01 00", 3, True),
+        # document 02, section 9: from -1, from the least docid and from 7 on, to the largest and past it, and to a docid not greater
+        (MINUS_1 + "00", 3, True), (MINUS_1 + "00 01 00", 3, True), (MINUS_1 + "02 00 01 02 00", 3, True),
+        (MINUS_1 + "00 80 80 80 80 80 80 80 80 80 01 00", 3, True), (MINUS_1 + "00 81 80 80 80 80 80 80 80 80 01 00", 3, False),
+        (MINUS_1 + "00 00 00", 3, False), (MINUS_1 + "00" + MINUS_1 + "00", 3, False),
+        (LEAST + "00" + MINUS_1 + "00", 3, True), (LEAST + "00" + MINUS_1 + "00 01 00", 3, False), ("07 00" + MINUS_1 + "00", 3, False),
+        ("00 00 FF FF FF FF FF FF FF FF 7F 00", 3, True), ("01 00 FF FF FF FF FF FF FF FF 7F 00", 3, False),
+        *(("80 80 80 80 80 80 80 80 80" + last + "00", 3, last == "01") for last in ("00", "01", "02", "7F", "80", "FF", "81 01", "80 01")),
+        # ten bytes of a number that is no docid: a position, the first and a later one, and a column
+        ("07" + MINUS_1 + "00", 3, False), ("07 09" + MINUS_1 + "00", 3, False), ("07 01" + MINUS_1 + "02 00", 3, False), ("07 01 01" + MINUS_1 + "00", 3, False),
         ("07 81 80 80 80 08 00", 3, True), ("07 82 80 80 80 08 00", 3, False),
         ("07 80 80 80 80 08 03 00", 3, True), ("07 80 80 80 80 08 04 00", 3, False),
     ]
@@ -297,6 +316,9 @@ def test_rules():
         ("00 02 61 61 02 07 00 01 01 62 02 07 00", True),
         ("00 02 61 61 02 07 00 00 02 61 62 02 07 00", False),
         ("00 02 61 62 02 07 00 01 01 61 02 07 00", False),
+        # ten bytes of the height, a word's length, a list's length, a prefix and a suffix
+        (MINUS_1 + "01 61 02 07 00", False), ("00" + MINUS_1 + "61 02 07 00", False), ("00 01 61" + MINUS_1 + "07 00", False),
+        ("00 01 61 02 07 00" + MINUS_1 + "01 62 02 07 00", False), ("00 01 61 02 07 00 00" + MINUS_1 + "62 02 07 00", False),
     ]
     for text, sound in leaves:
         check("leaf " + text, ref.check_leaf(h(text), 3), (0 if sound else 3, 0))
@@ -333,9 +355,17 @@ def test_lookups():
                              (b"b", [(9, [(0, [0])])])])
     answers = [(b"a", 5, (0, 2, 0, 4)), (b"a", 9, (0, 5, 0, 6)), (b"a", 6, (0, 3, 1, 7)),
                (b"a", 300, (0, 3, 1, 10)), (b"b", 9, (0, 3, 1, 17)), (b"a", 7, (0, 0, 0, 0)),
-               (b"c", 5, (0, 0, 0, 0)), (b"a", 2**63 - 1, (0, 0, 0, 0)), (b"a", -1, (1, 0, 0, 0))]
+               (b"c", 5, (0, 0, 0, 0)), (b"a", TOP_DOCID, (0, 0, 0, 0)), (b"a", -1, (0, 0, 0, 0)),
+               (b"a", LEAST_DOCID, (0, 0, 0, 0))]
     for word, docid, answer in answers:
         check("deciding", ref.deciding(newer, older, 2, word, docid), answer)
+    below = ref.encode_leaf([(b"a", [(LEAST_DOCID, []), (-1, [(0, [0])]), (5, []), (TOP_DOCID, [])])])
+    answers = [(LEAST_DOCID, (0, 11, 0, 4)), (-1, (0, 11, 0, 15)), (5, (0, 2, 0, 26)), (TOP_DOCID, (0, 10, 0, 28)),
+               (9, (0, 5, 1, 6)), (-2, (0, 0, 0, 0)), (0, (0, 0, 0, 0)), (LEAST_DOCID + 1, (0, 0, 0, 0))]
+    for docid, answer in answers:
+        check("deciding below 0", ref.deciding(below, newer, 2, b"a", docid), answer)
+    check("deciding below 0", below[4:15], bytes.fromhex(LEAST + "00"))
+    check("deciding below 0", below[15:26], b"\xff" * 8 + bytes.fromhex("7F 02 00"))
     check("deciding", newer[6:11], bytes.fromhex("04 01 01 06 00"))
     check("deciding", older[10:13], bytes.fromhex("A6 02 00"))
     check("deciding", ref.deciding(b"", b"", 2, b"a", 5), (3, 0, 0, 0))
@@ -353,7 +383,11 @@ def test_writer(rng):
     check("columns", ref.write_leaf(7, b"", [0] * 16, 2), (0, 0, bytes(2)))
     check("columns", ref.write_leaf(7, b"", [0] * 17, 2), (1, 0, bytes(2)))
     check("ends", ref.write_leaf(7, b"ab", [1], 9), (1, 0, bytes(9)))
-    check("docid", ref.write_leaf(-1, b"ab", [2], 9), (1, 0, bytes(9)))
+    for docid, number in [(-1, MINUS_1), (LEAST_DOCID, LEAST), (0, "00"), (TOP_DOCID, "FF FF FF FF FF FF FF FF 7F")]:
+        list_bytes = bytes.fromhex(number + "02 00")
+        leaf = b"\x00\x02ab" + bytes([len(list_bytes)]) + list_bytes
+        check("docid", ref.write_leaf(docid, b"ab", [2], 17), (0, len(leaf), leaf + bytes(17 - len(leaf))))
+    check("docid", ref.write_leaf(-1, b"ab", [2], 16), (4, 17, bytes(16)))
     check("bytes", ref.write_leaf(7, b" " * 4096, [4096], 0), (0, 0, b""))
     check("bytes", ref.write_leaf(7, b" " * 4097, [4097], 0), (1, 0, b""))
     long_word = b"a" * 65
@@ -365,7 +399,7 @@ def test_writer(rng):
         check("room", ref.write_leaf(7, b"n12probereply reply", [3, 8, 19], room), expected)
     for _ in range(200):
         texts = [bytes(rng.choices(b"abAB .\xc3", k=rng.randrange(30))) for _ in range(3)]
-        docid = rng.randrange(2 ** rng.randrange(1, 64))
+        docid = any_docid(rng)
         number, length, room = ref.write_leaf(docid, b"".join(texts), ends_of(texts), 300)
         check("written", number, 0)
         check("rest", room[length:], bytes(300 - length))
@@ -566,9 +600,13 @@ def test_search():
     check("no leaves", search([], b"reply", 0), (0, 0, []))
     check("room", search([P12], b"reply", 1), (0, 1, [7]))
     check("room", search([P12], b"reply", 0), (4, 1, []))
-    two = ref.encode_leaf([(b"a", [(3, [(0, [0])]), (9, [(0, [0])]), (2**63 - 1, [(0, [0])])])])
+    two = ref.encode_leaf([(b"a", [(3, [(0, [0])]), (9, [(0, [0])]), (TOP_DOCID, [(0, [0])])])])
     check("room", search([two], b"a", 2), (4, 3, [0, 0]))
-    check("room", search([two], b"a", 3), (0, 3, [3, 9, 2**63 - 1]))
+    check("room", search([two], b"a", 3), (0, 3, [3, 9, TOP_DOCID]))
+    signs = ref.encode_leaf([(b"a", [(d, [(0, [0])]) for d in (LEAST_DOCID, -300, -1, 0, 1, TOP_DOCID)])])
+    check("signed order", search([signs], b"a", 6), (0, 6, [LEAST_DOCID, -300, -1, 0, 1, TOP_DOCID]))
+    check("signed order", search([signs], b"a", 5), (4, 6, [0] * 5))
+    check("signed order", found([leaf_of(1, b"a", b"", b""), leaf_of(-1, b"a", b"", b""), leaf_of(-2, b"a", b"", b"")], b"a"), [-2, -1, 1])
     check("8 leaves", search([P12] * 8, b"reply", 2), (0, 1, [7, 0]))
     check("9 leaves", search([P12] * 9, b"reply", 2), (1, 0, [0, 0]))
     check("8 leaves", search([P12] * 7 + [b""], b"reply", 2), (3, 7, [0, 0]))
@@ -636,6 +674,8 @@ def test_program():
     check("program", ref.one_search(b"reply\n", P12), "docs 1\n7\n")
     check("program", ref.one_search(b"nothing", P12), "docs 0\n")
     check("program", ref.one_search(b"sent:reply", P12), "docs 0\n")
+    signs = ref.encode_leaf([(b"a", [(d, [(0, [0])]) for d in (LEAST_DOCID, -1, 0, TOP_DOCID)])])
+    check("program", ref.one_search(b"a", signs), "docs 4\n-9223372036854775808\n-1\n0\n9223372036854775807\n")
     check("program", ref.one_search(b"", P12), "refused 2 0\n")
     check("program", ref.one_search(b"reply", b""), "refused 3 0\n")
     check("program", ref.one_search(b"reply", None), "no leaf\n")
@@ -728,7 +768,7 @@ def change_table(rng, connection, vocabulary, transactions):
     for _ in range(transactions):
         connection.execute("begin")
         for _ in range(rng.randrange(1, 6)):
-            docid = rng.choice([rng.randrange(12), rng.randrange(12), rng.randrange(2**40)])
+            docid = rng.choice([rng.randrange(-6, 6), rng.randrange(-6, 6), any_docid(rng)])
             texts = [random_text(rng, vocabulary) for _ in NAMES]
             if docid not in docids:
                 connection.execute("insert into t(docid, node, sent, outcome) values(?,?,?,?)",
@@ -768,7 +808,7 @@ def test_sqlite_writer(rng, vocabulary):
     """The leaf that SQLite stores for one document is the writer's, byte by byte."""
     for _ in range(60):
         connection = new_table()
-        docid = rng.randrange(2 ** rng.randrange(1, 63))
+        docid = any_docid(rng)
         texts = [random_text(rng, vocabulary) for _ in NAMES]
         connection.execute("insert into t(docid, node, sent, outcome) values(?,?,?,?)",
                            [docid] + texts)
@@ -781,7 +821,7 @@ def test_sqlite_writer(rng, vocabulary):
 
 def test_sqlite_search(rng, vocabulary):
     """SQLite's leaves are sound, and both list the same docids."""
-    compared = listed = only_here = only_there = several = 0
+    compared = listed = below = only_here = only_there = several = 0
     for round_number in range(24):
         connection = new_table()
         transactions = rng.randrange(16, 22) if round_number % 3 == 0 else rng.randrange(1, 9)
@@ -811,11 +851,12 @@ def test_sqlite_search(rng, vocabulary):
                 check("sqlite %r" % query, found(leaves, query), theirs)
                 compared += 1
                 listed += bool(theirs)
+                below += bool(theirs) and theirs[0] < 0
         connection.close()
-    check("sqlite queries compared", compared > 500 and listed > 200 and several > 5, True)
+    check("sqlite queries compared", compared > 500 and listed > 200 and below > 200 and several > 5, True)
     check("accepted here, an error in SQLite", only_here, 0)
-    print("SQLite %s: %d queries compared, %d with docids, %d in SQLite's language only"
-          % (sqlite3.sqlite_version, compared, listed, only_there))
+    print("SQLite %s: %d queries compared, %d with docids, %d with docids below 0, %d in SQLite's language only"
+          % (sqlite3.sqlite_version, compared, listed, below, only_there))
 
 
 def test_sqlite(rng):

@@ -16,6 +16,7 @@ import tempfile
 import paths  # noqa: F401
 import export_leaves
 import generated
+import leaf_format
 import reference
 import sqlite_differences as differences
 from box import Box
@@ -35,15 +36,21 @@ def new_table(path):
 
 
 def filled(rng, base):
-    """One segment to a transaction, since its docids rise; from the 17th on SQLite has merged 16 into a higher level."""
+    """One segment to a transaction, since its docids rise; from the 17th on SQLite has merged 16 into a higher level.
+
+    The docids are below 0, from 0 on, or both; now and then one is far away. Where those of a transaction fall, SQLite writes a segment for
+    each row; where the last row is deleted it begins anew. If there are too many segments in the end, they are made one."""
     most = rng.choice((10, 10, 40, 300))
+    lowest = rng.choice((0, -most, -most // 2))
+    falling = rng.randrange(8) == 0
     for _ in range(rng.choice((rng.randrange(1, 9), rng.randrange(17, 24)))):
-        docids = {rng.randrange(most) if rng.randrange(20) else rng.randrange(2**62) for _ in range(rng.randrange(1, 12))}
+        docids = {rng.randrange(lowest, lowest + most) if rng.randrange(20) else generated.any_docid(rng) for _ in range(rng.randrange(1, 12))}
         base.execute("begin")
-        for docid in sorted(docids):
+        for docid in sorted(docids, reverse=falling):
             change(rng, base, docid)
         base.execute("commit")
-    if rng.randrange(12) == 0:
+    too_many = base.execute("select count(*) from t_segdir").fetchone()[0] > leaf_format.MAX_LEAVES
+    if too_many or rng.randrange(12) == 0:
         base.execute("insert into t(t) values ('optimize')")
 
 
@@ -86,6 +93,9 @@ def compare(rng, tally, counts, box, base, names, leaves):
             tally.fail("SQLite refuses %r" % query)
         counts["compared"] += 1
         counts["list docids"] += bool(listed)
+        counts["list docids below 0"] += bool(listed) and listed[0] < 0
+        counts["list docids below 0 and above"] += bool(listed) and listed[0] < 0 < listed[-1]
+        counts["list the least or the largest docid"] += bool(listed) and (listed[0] == generated.LEAST_DOCID or listed[-1] == generated.TOP_DOCID)
         counts["have NEAR"] += b"NEAR" in query
         counts["have NEAR between operands alike"] += alike
         counts["of these list docids"] += alike and bool(listed)
@@ -130,7 +140,10 @@ def main(words):
             base.close()
             os.remove(path)
     print("SQLite %s: " % sqlite3.sqlite_version + ", ".join("%d %s" % (n, what) for what, n in counts.items()))
-    for what, least in (("list docids", 4), ("have NEAR", 4), ("have NEAR between operands alike", 8), ("of these list docids", 16)):
+    for what, least in (
+        ("list docids", 4), ("list docids below 0", 8), ("list docids below 0 and above", 16), ("list the least or the largest docid", 200), ("have NEAR", 4),
+        ("have NEAR between operands alike", 8), ("of these list docids", 16),
+    ):
         if counts[what] == 0 or counts[what] * least < counts["compared"]:
             tally.fail("too few queries " + what)
     for what in ("with several segments", "with two levels"):

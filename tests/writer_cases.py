@@ -3,9 +3,9 @@ import random
 
 import reference
 from case_writer import DOCUMENT, joined
+from generated import EDGES, any_docid
 
 SEED = 20263
-TOP_DOCID = 2**63 - 1
 
 
 def ask(cases, docid, texts, ends, room):
@@ -29,8 +29,12 @@ def ask_parts(cases, docid, parts):
 def shapes(cases):
     plain = [b"n12", b"probe", b"reply reply"]
     ask_parts(cases, 7, plain)
-    for docid in (0, 1, TOP_DOCID, -1, -2**63):
-        ask(cases, docid, *joined(plain), 64)
+    for docid in EDGES:
+        ask_parts(cases, docid, plain)
+        ask_parts(cases, docid, [b"", b"a" * 64])
+        ask(cases, docid, *joined([b"", b" ."]), 3)
+        ask(cases, docid, *joined([b"a", b"b" * 65]), 64)
+        ask(cases, docid, *joined([]), 64)
     for count in (0, 1, 16, 17):
         ask(cases, 7, *joined([b"a b"] * count), 400)
     texts, ends = joined(plain)
@@ -59,7 +63,7 @@ def generated(cases, rng):
     for _ in range(400):
         count = rng.choice((1, 2, 3, 16))
         parts = [bytes(rng.choice(b"aAbBz09 . -\x80\xff") for _ in range(rng.randrange(20))) for _ in range(count)]
-        ask_parts(cases, rng.choice((0, 7, 128, 2**40, TOP_DOCID)), parts)
+        ask_parts(cases, rng.choice((0, 7, 128, -1, any_docid(rng))), parts)
 
 
 def long_documents(cases):
@@ -67,6 +71,9 @@ def long_documents(cases):
     ask(cases, 7, *joined([b" ".join(pairs[:1365])]), 16384)
     ask(cases, 7, *joined([b" ".join(reversed(pairs[:1365]))]), 16384)
     ask(cases, 7, *joined([b"a " * 1024, b"b a " * 512]), 16384)
+    for size in range(114, 120):  # a list's length of one byte and of two: ten bytes are its docid's
+        ask_parts(cases, -1, [b"a " * size])
+    ask(cases, -1, *joined([b" ".join(pairs[:1365])]), 20000)
 
 
 def make(cases):

@@ -168,9 +168,7 @@ def read_leaf(leaf, columns):
         return leaf_format.read_leaf(leaf.data, columns)
     except leaf_format.Broken as broken:
         advice = "damaged: run `rebuild`, or take the database from a backup"
-        if broken.docid is not None and broken.docid < 0:
-            advice = "number the rows from 0 on"
-        elif broken.word is not None and len(broken.word) > leaf_format.MAX_WORD_BYTES:
+        if broken.word is not None and len(broken.word) > leaf_format.MAX_WORD_BYTES:
             advice = "change the rows that have this word"
         raise Refused("the leaf of level %d, index %d breaks a rule: %s (%s)" % (leaf.level, leaf.index, broken, advice))
 

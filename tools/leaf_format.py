@@ -1,6 +1,6 @@
-"""Leaves as document 01 has them: stored numbers, posting lists, leaves, words, live entries.
+"""Leaves as documents 01 and 02 have them: stored numbers, posting lists, leaves, words, live entries.
 
-What the tools and the second program (tests/reference.py) share. It is written from document 01 alone. Whatever breaks a rule
+What the tools and the second program (tests/reference.py) share. It is written from these documents alone. Whatever breaks a rule
 raises `Broken`, which says the rule, and the word and the docid at which it is broken.
 """
 
@@ -11,6 +11,7 @@ MAX_NAME_BYTES = 32
 MAX_WORD_BYTES = 64
 MAX_NUMBER_BYTES = 9
 MAX_NUMBER = 2**63 - 1
+MAX_DOCID_BYTES = 10
 MAX_POSITION = 2**31 - 1
 
 NAME_BYTES = b"ABCDEFGHIJKLMNOPQRSTUVWXYZabcdefghijklmnopqrstuvwxyz0123456789_"
@@ -57,13 +58,13 @@ def columns_ok(columns):
 # Stored numbers
 
 
-def read_number(s, at):
+def read_number(s, at, most=MAX_NUMBER_BYTES):
     """The number stored at `at` and where it ends.
 
-    Document 01, "Stored numbers": one to nine bytes, shortest form only.
+    Document 01, "Stored numbers": one to nine bytes, shortest form only. Document 02, section 9: a tenth byte, where one may stand, is 1.
     """
     value = 0
-    for count in range(MAX_NUMBER_BYTES):
+    for count in range(most):
         if not 0 <= at + count < len(s):
             raise Broken("a stored number is cut short")
         byte = s[at + count]
@@ -71,20 +72,32 @@ def read_number(s, at):
         if byte < 128:
             if byte == 0 and count > 0:
                 raise Broken("a stored number is not in its shortest form")
+            if value >= 2**64:
+                raise Broken("a stored number has more than 64 bits")
             return value, at + count + 1
-    raise Broken("a stored number has more than nine bytes")
+    raise Broken("a stored number has more than %d bytes" % most)
 
 
 # A posting list (doclist)
 
 
-def read_docid(s, at):
-    """A docid, or the difference to the docid before; a docid below zero, which takes ten bytes, is refused as such."""
-    tenth = s[at + MAX_NUMBER_BYTES:at + MAX_NUMBER_BYTES + 1]
-    if tenth == b"\x01" and all(byte >= 128 for byte in s[at:at + MAX_NUMBER_BYTES]):
-        stored = sum((s[at + i] % 128) << (7 * i) for i in range(MAX_NUMBER_BYTES + 1))
-        raise Broken("docids go from 0 to 2^63 - 1", docid=stored - 2**64)
-    return read_number(s, at)
+def signed(n):
+    """The signed number with the lowest 64 bits of a number (two's complement)."""
+    return (n + 2**63) % 2**64 - 2**63
+
+
+def read_docid(s, at, previous):
+    """The docid whose number stands at `at`, and where the number ends; `previous` is the docid before, None for the first.
+
+    Document 02, section 9: the docid's 64 bits, later the difference modulo 2^64; only these may take ten bytes.
+    """
+    stored, at = read_number(s, at, MAX_DOCID_BYTES)
+    if previous is None:
+        return signed(stored), at
+    docid = signed(previous + stored)
+    if docid <= previous:
+        raise Broken("docids do not rise", docid=previous)
+    return docid, at
 
 
 def read_columns(s, at, columns):
@@ -142,13 +155,7 @@ def read_entries(s, columns):
     at = 0
     while at < len(s):
         start = at
-        docid, at = read_docid(s, at)
-        if entries:
-            if docid < 1:
-                raise Broken("docids do not rise", docid=entries[-1][0])
-            docid += entries[-1][0]
-        if docid > MAX_NUMBER:
-            raise Broken("docids go from 0 to 2^63 - 1", docid=docid)
+        docid, at = read_docid(s, at, entries[-1][0] if entries else None)
         try:
             found, at = read_columns(s, at, columns)
         except Broken as broken:

@@ -28,7 +28,6 @@ fn say_written(answer: Written) {
     match answer {
         Written::Bytes(size) => say_pair(0, size),
         Written::NoRoom(size) => say_pair(1, size),
-        Written::TooLarge => say_pair(2, 0),
     }
 }
 

@@ -1,5 +1,6 @@
 // The compared cases of the search: the two numbers, the docids, and how many numbers of the room after them are not 0.
 use crate::exchange;
+use doclist::keys;
 use search::Answer;
 ghost use mathlib.Core.Path.{_≡_};
 ghost use lib.ListN.{drop};
@@ -35,14 +36,12 @@ fn second(answer: Answer) -> usize
     }
 }
 
+// The docids, each as its 64 bits.
 fn say_docids(room: &[i64], n: usize) {
     let mut i: usize = 0;
     while i < n {
         if i < room.len() {
-            let d = room[i];
-            if d >= 0 {
-                exchange::say(d as u64);
-            }
+            exchange::say(keys::bits_of(keys::key_of(room[i])));
         }
         i += 1;
     }

@@ -1,20 +1,16 @@
--- Laws of numbers: bounds, differences, powers of 128, and whole numbers that are not negative.
+-- Laws of numbers: bounds, differences and powers of 128.
 use Prim.Native.Nat.{_*_, _+_, _-_, _/_, _<_, _^_, _≤_, suc, zero, ℕ}
 use native.Mathlib.Nat.{add-mul, le-pred-of-lt, mul-assoc, mul-comm, mul-le-mul-left, mul-le-mul-right, mul-one, not-suc-le-zero, pow-suc, pow-succ', suc-mul}
 use native.Mathlib.Numerals.{sub-one}
 use native.Mathlib.Omega.{arith}
 use mathlib.Core.Bool.{Bool, false, true}
-use mathlib.Core.Path.{_∙_, _≡_, ap, refl, sym}
-use lib.Dec.{T, eqb, leb}
-use lib.IntN.{natAbs, negsuc, pos, pos-ne-negsuc, ℤ}
+use mathlib.Core.Path.{_∙_, _≡_, ap, sym}
+use lib.Dec.{eqb, leb}
 use lib.ListN.{length}
-use lib.Signed.{leZ, nonNeg}
 use borrow.Author.Tests.{eq-eqb, eqb-true, le-leb, leb-true, lt-leb}
-use mir.Syntax.{w64}
-use mir.Val.{Fits, SFits}
 use Rattle.common.specs.Bytes.{within}
 use Rattle.common.specs.Pick.{pick}
-use Rattle.common.proofs.Cases.{bool-case, both-left, both-right, both-true, false-not-true, same-test}
+use Rattle.common.proofs.Cases.{bool-case, both-left, both-right, both-true, same-test}
 
 -- ---- within two others
 
@@ -99,18 +95,3 @@ scale-room limit scale left z e =
 -- a digit at the scale stays below the scale's next step
 pub digit-room : (d value scale : ℕ) → d < 128 → value < scale → value + d * scale < scale * 128
 digit-room d value scale h a = let m = mul-le-mul-right scale (le-pred-of-lt h) in omega arith
-
--- ---- whole numbers
-
-pub not-negative : (d : ℤ) → leZ (pos 0) d ≡ true → d ≡ pos (natAbs d)
-not-negative (pos n) e = refl
-not-negative (negsuc n) e = false-not-true e
-
-pub natural-tested : (d : ℤ) → d ≡ pos (natAbs d) → leZ (pos 0) d ≡ true
-natural-tested (pos n) e = le-leb 0 n (omega arith)
-natural-tested (negsuc n) e = absurd (pos-ne-negsuc (suc n) n (sym e))
-
--- so it is the same number without a sign
-pub unsigned : (d : ℤ) → SFits w64 d → d ≡ pos (natAbs d) → T (nonNeg d) × Fits w64 (natAbs d)
-unsigned (pos n) f e = (tt, record { fits = omega (arith, f .sfits) })
-unsigned (negsuc n) f e = absurd (pos-ne-negsuc (suc n) n (sym e))

@@ -13,7 +13,8 @@ use lib.Seq.{length-take-le, take-add, take-set-le, drop-set-add, getD-take, get
 use Rattle.common.specs.Bytes.{part}
 use Rattle.common.proofs.Cases.{same-or}
 use Rattle.common.proofs.Numbers.{counted-few}
-use Rattle.cursors.specs.Arrays.{finished, leastOf, blockSize, blockOf, MinimaAre}
+use Rattle.cursors.specs.Groups.{lastKey}
+use Rattle.cursors.specs.Arrays.{leastOf, blockSize, blockOf, MinimaAre}
 use Rattle.cursors.specs.Scanning.{begun, joined, overOther, overHit, BlockTaken}
 use Rattle.cursors.specs.declared.Scan.{Scan}
 use Rattle.cursors.proofs.Docids.{least-append, least-more}
@@ -25,7 +26,7 @@ least-below [] k h = absurd (not-suc-le-zero h)
 least-below (d ∷ ds) zero h = omega arith
 least-below (d ∷ ds) (suc k) h = let l = least-below ds k (le-of-suc-le-suc h) in omega arith
 
-pub least-from : (m : ℕ) (ds : List ℕ) → m ≤ finished → ((k : ℕ) → k < length ds → m ≤ getD ds k 0) → m ≤ leastOf ds
+pub least-from : (m : ℕ) (ds : List ℕ) → m ≤ lastKey → ((k : ℕ) → k < length ds → m ≤ getD ds k 0) → m ≤ leastOf ds
 least-from m [] h a = h
 least-from m (d ∷ ds) h a =
     let l = least-from m ds h (λ k b. a (suc k) (omega arith)) in
@@ -90,7 +91,7 @@ module _ (ds : List ℕ) (n b : ℕ) (inside : n ≤ length ds) where
         let e = getD-block (k - blockSize * b) (omega arith) (omega arith) ∙ ap (λ (x : ℕ). getD ds x 0) q in
         let i = least-below (blockOf ds n b) (k - blockSize * b) (omega arith) in omega arith
 
-    pub block-from : (m : ℕ) → m ≤ finished → ((k : ℕ) → blockSize * b ≤ k → k < to → m ≤ getD ds k 0) → m ≤ leastOf (blockOf ds n b)
+    pub block-from : (m : ℕ) → m ≤ lastKey → ((k : ℕ) → blockSize * b ≤ k → k < to → m ≤ getD ds k 0) → m ≤ leastOf (blockOf ds n b)
     block-from m h a =
         let l = length-block in
         least-from m (blockOf ds n b) h

@@ -14,11 +14,14 @@ use Rattle.common.proofs.Runs.{span-most}
 use Rattle.varint.specs.Varint.{encode, encodeIn, maxVarint, readAt}
 use Rattle.varint.specs.declared.Varint.the-variants.{Value, Refused}
 use Rattle.varint.proofs.Laws.{encode-small, encode-big, refused-no-value, value-same, next-same}
+use Rattle.doclist.specs.Docid.{difference}
 use Rattle.doclist.specs.Doclist.{Column, Entry, positionNumbers, announced, columnNumbers, encodeAll, entryBytes, encodeFrom}
+use Rattle.doclist.proofs.Docids.{difference-later}
 use Rattle.doclist.proofs.Entries.{entry-number, first-entry, entries-pos}
 use Rattle.row.specs.Row.{bodyBytes}
 use Rattle.row.proofs.Bodies.{openBytes, body-closes, body-length}
-use Rattle.cursors.specs.Arrays.{isOpen, finished, StandsOn, ListAt}
+use Rattle.cursors.specs.Groups.{lastKey}
+use Rattle.cursors.specs.Arrays.{isOpen, StandsOn, ListAt}
 
 -- ---- no byte 0
 
@@ -102,8 +105,8 @@ module _ {leaves : List ℕ} {e : Entry} {rest : List Entry} {docid body last : 
 
 -- where that is the list's last byte, no entry is left
 pub stands-last : {leaves : List ℕ} {e : Entry} {rest : List Entry} {docid body last : ℕ} (size : ℕ) → StandsOn leaves e rest docid body last
-    → size ≡ span isOpen (part leaves body last) → body + size ≡ last → ListAt leaves rest finished body last
-stands-last {rest = []} size on q h = refl
+    → size ≡ span isOpen (part leaves body last) → body + size ≡ last → ListAt leaves rest lastKey 0 last
+stands-last {rest = []} size on q h = (refl, refl)
 stands-last {e = e} {rest = x ∷ xs} size on q h =
     absurd (omega (arith, closes-at on, last-is on, entries-pos (e .docid) (x ∷ xs) (omega arith)))
 
@@ -111,19 +114,22 @@ stands-last {e = e} {rest = x ∷ xs} size on q h =
 pub record NextHere (leaves : List ℕ) (rest : List Entry) (docid at last v next : ℕ) : Type 0 where
   pub reads : readAt leaves at ≡ Value v next
   pub inside : next < length leaves
+  pub more : 0 < v
+  pub fits : docid + v ≤ lastKey
   pub stands : ListAt leaves rest (docid + v) next last
 
 next-is : {leaves : List ℕ} {e : Entry} {rest : List Entry} {docid body last : ℕ} (size : ℕ) → StandsOn leaves e rest docid body last
     → size ≡ span isOpen (part leaves body last) → (body + size ≡ last → ⊥) → (v next : ℕ) × NextHere leaves rest docid (body + size + 1) last v next
 next-is {rest = []} size on q h = absurd (h (omega (arith, closes-at on, last-is on)))
 next-is {leaves = leaves} {e = e} {rest = x ∷ xs} {docid = docid} {body = body} {last = last} size on q h =
-    let v : ℕ = x .docid - e .docid in
+    let v : ℕ = difference (e .docid) (x .docid) in
+    let w : v ≡ x .docid - e .docid = difference-later (e .docid) (x .docid) (omega (arith, on .later .0)) (on .later .1) in
     let at : ℕ = body + size + 1 in
     let next : ℕ = at + length (encode v) in
     let b : at ≡ body + length (bodyBytes (e .columns)) = omega (arith, closes-at on, body-length (e .columns)) in
     let d : drop at leaves ≡ encodeFrom (e .docid) (x ∷ xs) ++ on .after =
     ap (λ (k : ℕ). drop k leaves) b ∙ drop-past leaves body (bodyBytes (e .columns)) (encodeFrom (e .docid) (x ∷ xs) ++ on .after) (on .bytes) in
-    let k = entry-number leaves at (e .docid) x (encodeFrom (x .docid) xs ++ on .after) (on .later .1)
+    let k = entry-number leaves at (e .docid) x (encodeFrom (x .docid) xs ++ on .after)
     (first-entry leaves at (e .docid) x xs (on .after) d) in
     let l : length (encodeFrom (e .docid) (x ∷ xs)) ≡ length (encode v) + length (bodyBytes (x .columns)) + length (encodeFrom (x .docid) xs) =
     length-append (entryBytes (e .docid) x) (encodeFrom (x .docid) xs)
@@ -134,10 +140,13 @@ next-is {leaves = leaves} {e = e} {rest = x ∷ xs} {docid = docid} {body = body
       record {
         reads = k .0;
         inside = omega (arith, i, body-length (x .columns));
+        more = omega (arith, w, on .later .0);
+        fits = omega (arith, w, on .same, on .later .0, on .later .1);
         stands =
             record {
               after = on .after;
-              same = omega (arith, on .same, on .later .0);
+              same = omega (arith, w, on .same, on .later .0);
+              some = omega arith;
               bytes = k .1;
               ends = omega (arith, on .ends);
               limit = on .later .1;

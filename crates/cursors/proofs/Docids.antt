@@ -10,15 +10,15 @@ use lib.Seq.{take-suc, ext-getD, length-take-le, getD-take}
 use borrow.Author.Tests.{eq-eqb, ne-eqb}
 use Rattle.common.proofs.Cases.{split, same-or}
 use Rattle.common.proofs.Lists.{getD-inside}
-use Rattle.doclist.specs.Doclist.{Entry, docidLimit}
-use Rattle.cursors.specs.Groups.{Group, BeginsFrom, GroupsBegin, NextIs}
-use Rattle.cursors.specs.Arrays.{finished, ListAt, Cursor, groupCursors, cursors, noCursor, Hold, CursorsAre, leastOf, nextOf}
+use Rattle.doclist.specs.Doclist.{Entry}
+use Rattle.cursors.specs.Groups.{Group, BeginsFrom, GroupsBegin, NextIs, lastKey}
+use Rattle.cursors.specs.Arrays.{ListAt, Cursor, groupCursors, cursors, noCursor, Hold, CursorsAre, leastOf, nextOf}
 use Rattle.cursors.specs.declared.Next.{Next}
-use Rattle.cursors.proofs.Each.{EachCursor, EntriesOrdered, hold-ordered, each-every}
+use Rattle.cursors.proofs.Each.{EachCursor, each-every}
 
 -- ---- one more docid
 
-pub least-most : (ds : List ℕ) → leastOf ds ≤ finished
+pub least-most : (ds : List ℕ) → leastOf ds ≤ lastKey
 least-most [] = omega arith
 least-most (d ∷ ds) = let h = least-most ds in omega arith
 
@@ -38,14 +38,14 @@ least-more ds i least h e =
 -- ---- the docids of the cursors
 
 abbrev pub headDocid : List Entry → ℕ
-headDocid [] = finished
+headDocid [] = lastKey
 headDocid (e ∷ es) = e .docid
 
 abbrev headOf : Cursor → ℕ
 headOf c = headDocid (c .left)
 
 head-at : (leaves : List ℕ) (l : List Entry) (docid body last : ℕ) → ListAt leaves l docid body last → docid ≡ headDocid l
-head-at leaves [] docid body last h = h
+head-at leaves [] docid body last h = h .0
 head-at leaves (e ∷ rest) docid body last h = h .same
 
 docids-are : {leaves docids bodies lasts masks follows : List ℕ} {n : ℕ} (cs : List Cursor) → Hold leaves docids bodies lasts masks follows n cs
@@ -58,7 +58,7 @@ docids-are {leaves} {docids} {bodies} {lasts} {n = n} cs h =
     getD-take n docids i 0 (omega arith)
     ∙ head-at leaves (getD cs i noCursor .left) (getD docids i 0) (getD bodies i 0) (getD lasts i 0) (h .each i (omega arith) .list)
     ∙ sym (List·getD-map headOf cs i noCursor)
-    ∙ getD-inside (map headOf cs) i finished 0 (omega (arith, h .count)))
+    ∙ getD-inside (map headOf cs) i lastKey 0 (omega (arith, h .count)))
 
 -- ---- the least of them
 
@@ -83,12 +83,12 @@ record Met (docid : ℕ) (cs : List Cursor) : Type 0 where
   pub lists : cursor .left ≡ first ∷ others
   pub same : first .docid ≡ docid
 
-met-here : (c : Cursor) (cs : List Cursor) (d : ℕ) (l : List Entry) → c .left ≡ l → headDocid l ≡ d → (d ≡ finished → ⊥) → Met d (c ∷ cs)
+met-here : (c : Cursor) (cs : List Cursor) (d : ℕ) (l : List Entry) → c .left ≡ l → headDocid l ≡ d → (d ≡ lastKey → ⊥) → Met d (c ∷ cs)
 met-here c cs d [] q e h = absurd (h (sym e))
 met-here c cs d (x ∷ xs) q e h =
     record { cursor = c; first = x; others = xs; member = List·Memᴰ·head refl; lists = q; same = e }
 
-met : (cs : List Cursor) (d : ℕ) → least cs ≡ d → (d ≡ finished → ⊥) → Met d cs
+met : (cs : List Cursor) (d : ℕ) → least cs ≡ d → (d ≡ lastKey → ⊥) → Met d cs
 met [] d e h = absurd (h (sym e))
 met (c ∷ cs) d e h =
     split (headOf c) (least cs)
@@ -126,27 +126,10 @@ begins gs d m =
       same = m .same;
     }
 
--- the docids are below the limit
-limit-of : (cs : List Cursor) (c : Cursor) (e : Entry) (es : List Entry) → EachCursor EntriesOrdered cs → List·Memᴰ c cs → c .left ≡ e ∷ es → e .docid < docidLimit
-limit-of [] c e es h m q = absurd (List·Memᴰ·not-nil m)
-limit-of (x ∷ cs) c e es h m q =
-    ⊎-elim
-    (λ p. subst EntriesOrdered (sym (ap (λ (y : Cursor). y .left) p) ∙ q) (h .0) .1)
-    (λ k. limit-of cs c e es (h .1) k q)
-    (List·Memᴰ·cases-cons m)
-
-none-left : (cs : List Cursor) → EachCursor EntriesOrdered cs → EachCursor (BeginsFrom finished) cs → EachCursor (λ (l : List Entry). l ≡ []) cs
-none-left [] h k = tt
-none-left (c ∷ cs) h k = (one (c .left) (h .0) (k .0), none-left cs (h .1) (k .1))
-  where
-    one : (l : List Entry) → EntriesOrdered l → BeginsFrom finished l → l ≡ []
-    one [] p q = refl
-    one (e ∷ es) p q = absurd (omega (arith, p .1))
-
 -- the least docid is the one to go on with
 pub next-is : {leaves docids bodies lasts masks follows : List ℕ} {n : ℕ} (gs : List Group) → CursorsAre leaves docids bodies lasts masks follows n gs
     → NextIs gs (nextOf (leastOf (take n docids)))
-next-is {docids = docids} {n = n} gs h = subst (λ (m : ℕ). NextIs gs (nextOf m)) (sym q) (same-or (least cs) finished none some)
+next-is {docids = docids} {n = n} gs h = subst (λ (m : ℕ). NextIs gs (nextOf m)) (sym q) (same-or (least cs) lastKey none some)
   where
     cs : List Cursor
     cs = cursors gs
@@ -154,18 +137,17 @@ next-is {docids = docids} {n = n} gs h = subst (λ (m : ℕ). NextIs gs (nextOf 
     q : leastOf (take n docids) ≡ least cs
     q = ap leastOf (docids-are cs (h .hold))
 
-    none : least cs ≡ finished → NextIs gs (nextOf (least cs))
+    none : least cs ≡ lastKey → NextIs gs (nextOf (least cs))
     none e =
-        rw (eq-eqb (least cs) finished e)
-        (each-every (λ (l : List Entry). l ≡ []) gs (none-left cs (hold-ordered cs (h .hold)) (least-from finished cs (omega arith))))
+        rw (eq-eqb (least cs) lastKey e) (each-every (BeginsFrom lastKey) gs (least-from lastKey cs (omega arith)))
 
-    some : (least cs ≡ finished → ⊥) → NextIs gs (nextOf (least cs))
+    some : (least cs ≡ lastKey → ⊥) → NextIs gs (nextOf (least cs))
     some e =
         let m = met cs (least cs) refl e in
-        rw (ne-eqb (least cs) finished e) (
+        rw (ne-eqb (least cs) lastKey e) (
           each-every (BeginsFrom (least cs)) gs (least-from (least cs) cs (omega arith)),
           begins gs (least cs) m,
-          omega (arith, m .same, limit-of cs (m .cursor) (m .first) (m .others) (hold-ordered cs (h .hold)) (m .member) (m .lists)),
+          omega (arith, least-most (map headOf cs)),
         )
 
 pub next-told : {r : Next} (docids : List ℕ) (n m : ℕ) → take m docids ≡ take n docids → r ≡ nextOf (leastOf (take m docids))

@@ -9,3 +9,4 @@ pub mod Blocks
 pub mod Others
 pub mod Scanning
 pub mod Passing
+pub mod Few

@@ -80,16 +80,6 @@ hits-none d f [] o b h = refl
 hits-none d f (g ∷ gs) o b h =
     ap₂ (λ (x : MaybeEntry) (r : List Hit). hitOf (g .mask) x ++ r) (no-first d f (g .lists) (o .0) (b .0) h) (hits-none d f gs (o .1) (b .1) h)
 
--- where no entry is left there is no row
-pub hits-end : (f : ℕ) (gs : List Group) → EveryGroup (λ (l : List Entry). l ≡ []) gs → hitsAt f gs ≡ []
-hits-end f [] e = refl
-hits-end f (g ∷ gs) e =
-    ap₂ (λ (x : MaybeEntry) (r : List Hit). hitOf (g .mask) x ++ r) (none (g .lists) (e .0)) (hits-end f gs (e .1))
-  where
-    none : (ls : List (List Entry)) → EveryList (λ (l : List Entry). l ≡ []) ls → firstFor f ls ≡ nothing
-    none [] q = refl
-    none (l ∷ ls) q = ap (λ (x : List Entry). orElse (entryFor f x) (firstFor f ls)) (q .0) ∙ none ls (q .1)
-
 -- ---- the cursors
 
 lists-cursors : (d mask follows : ℕ) (ls : List (List Entry)) (cs : List Cursor)

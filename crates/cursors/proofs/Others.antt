@@ -10,7 +10,8 @@ use borrow.Author.Tests.{eq-eqb, ne-eqb}
 use Rattle.common.specs.Bytes.{part}
 use Rattle.common.proofs.Cases.{same-or}
 use Rattle.common.specs.Frame.{KeptFrom}
-use Rattle.cursors.specs.Arrays.{finished, leastOf, blockSize, MinimaAre}
+use Rattle.cursors.specs.Groups.{lastKey}
+use Rattle.cursors.specs.Arrays.{StandsFor, leastOf, blockSize, MinimaAre}
 use Rattle.cursors.specs.Frames.{otherThan}
 use Rattle.cursors.proofs.Docids.{least-most, least-append}
 use Rattle.cursors.proofs.Blocks.{block-part}
@@ -58,7 +59,7 @@ module _ (docid : ℕ) where
 -- ---- within a block
 
 module _ (docid : ℕ) (ds : List ℕ) (from : ℕ) where
-  pub rest-begun : finished ≡ leastOf (otherThan docid (part ds from from))
+  pub rest-begun : lastKey ≡ leastOf (otherThan docid (part ds from from))
   rest-begun = let z : 0 ≡ from - from = omega arith in ap (λ (k : ℕ). leastOf (otherThan docid (take k (drop from ds)))) z
 
   module _ (i rest : ℕ) (h : from ≤ i) (l : i < length ds) (e : rest ≡ leastOf (otherThan docid (part ds from i))) where
@@ -72,11 +73,16 @@ module _ (docid : ℕ) (ds : List ℕ) (from : ℕ) where
         ∙ other-join docid (part ds from i) (getD (drop from ds) (i - from) 0 ∷ [])
         ∙ ap (λ (x : ℕ). min (leastOf (otherThan docid (part ds from i))) (leastOf (otherThan docid (x ∷ [])))) (getD-drop from ds (i - from) 0 ∙ ap (λ (k : ℕ). getD ds k 0) q)
 
-    pub rest-other : (at : ℕ) → at ≡ getD ds i 0 → (at ≡ docid → ⊥) → min rest at ≡ leastOf (otherThan docid (part ds from (i + 1)))
-    rest-other at a o =
-        let n = ap leastOf (not-here docid (getD ds i 0) [] (λ (z : getD ds i 0 ≡ docid). o (a ∙ z))) in
+    pub rest-other : (at body : ℕ) → at ≡ getD ds i 0 → (StandsFor docid at body → ⊥) → min rest at ≡ leastOf (otherThan docid (part ds from (i + 1)))
+    rest-other at body a o =
         let m = least-most (otherThan docid (part ds from i)) in
-        let k = one-more in omega arith
+        let k = one-more in
+        same-or at docid
+        (λ q.
+        same-or at lastKey
+        (λ z. let n = ap leastOf (here docid (getD ds i 0) [] (sym a ∙ q)) in omega arith)
+        (λ z. absurd (o (q, λ y. absurd (z y)))))
+        (λ q. let n = ap leastOf (not-here docid (getD ds i 0) [] (λ (z : getD ds i 0 ≡ docid). q (a ∙ z))) in omega arith)
 
     pub rest-hit : getD ds i 0 ≡ docid → rest ≡ leastOf (otherThan docid (part ds from (i + 1)))
     rest-hit o =

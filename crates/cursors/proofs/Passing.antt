@@ -13,8 +13,8 @@ use Rattle.common.proofs.Cases.{split, same-or}
 use Rattle.doclist.specs.Doclist.{Entry}
 use Rattle.meaning.specs.Index.{MaybeEntry, nothing, entry, entryFor, orElse}
 use Rattle.row.specs.Row.{Hit}
-use Rattle.cursors.specs.Groups.{Group, firstFor, hitOf, hitsAt, withoutBefore, EveryList, BeginsFrom, From, NextIs}
-use Rattle.cursors.specs.Arrays.{finished, StandsOn, ListAt, Cursor, groupCursors, cursors, noCursor, CursorAt, Hold, CursorsAre, leastOf, nextOf, MinimaAre, Passed}
+use Rattle.cursors.specs.Groups.{Group, firstFor, hitOf, hitsAt, withoutBefore, EveryList, BeginsFrom, From, NextIs, lastKey}
+use Rattle.cursors.specs.Arrays.{StandsOn, ListAt, Cursor, groupCursors, cursors, noCursor, CursorAt, Hold, CursorsAre, leastOf, nextOf, MinimaAre, Passed}
 use Rattle.cursors.specs.declared.Next.{Next}
 use Rattle.cursors.proofs.Each.{list-ordered}
 use Rattle.cursors.proofs.Docids.{next-is}
@@ -63,7 +63,7 @@ pub record Remains (leaves : List ℕ) (left : List Entry) (rest docid body last
   pub same : withoutBefore rest entries ≡ withoutBefore rest left
 
 module _ {leaves : List ℕ} {left : List Entry} {rest docid body last : ℕ} where
-  pub remains-next : (pd pb : ℕ) → docid < rest → rest ≤ finished
+  pub remains-next : (pd pb : ℕ) → docid < rest → rest ≤ lastKey
       → ((e : Entry) (es : List Entry) → StandsOn leaves e es docid body last → ListAt leaves es pd pb last)
       → Remains leaves left rest docid body last → Remains leaves left rest pd pb last
   remains-next pd pb h b next r = go (r .entries) (r .stands) (r .same)
@@ -185,7 +185,7 @@ module _ {leaves docids bodies lasts masks follows : List ℕ} {n : ℕ} (i rest
       (λ q. inl (no-entry rest d (getD cs k noCursor .left) (list-ordered leaves (getD cs k noCursor .left) (getD docids k 0) (getD bodies k 0) (getD lasts k 0) (a .list)) (begins-later k b q) h))
 
   -- no cursor stands before the docid any more
-  pub passed-from : (pd : ℕ) → rest ≤ finished → rest ≤ pd → rest ≤ leastOf (take n (set docids i pd))
+  pub passed-from : (pd : ℕ) → rest ≤ lastKey → rest ≤ pd → rest ≤ leastOf (take n (set docids i pd))
   passed-from pd top h =
       let dl = length-set docids i pd in
       let l = length-take-le n (set docids i pd) (omega (arith, are .hold .room .docid-room)) in

@@ -12,11 +12,12 @@ use borrow.Author.Tests.{eq-eqb, ne-eqb}
 use Rattle.common.specs.Pick.{pick}
 use Rattle.common.proofs.Cases.{split}
 use Rattle.common.specs.Bounds.{maxIndexBytes}
-use Rattle.doclist.specs.Doclist.{Entry, docidLimit}
+use Rattle.doclist.specs.Docid.{docidLimit}
+use Rattle.doclist.specs.Doclist.{Entry}
 use Rattle.meaning.specs.Index.{MaybeEntry, nothing, entry}
 use Rattle.row.specs.Row.{Hit, BodyAt, RowIs}
-use Rattle.cursors.specs.Groups.{Group, hitsAt, without, moved, BeginsFrom, From, NextIs}
-use Rattle.cursors.specs.Arrays.{finished, StandsOn, ListAt, Cursor, cursors, noCursor, CursorAt, Hold, CursorsAre, leastOf, nextOf, blockSize, MinimaAre, RowTaken}
+use Rattle.cursors.specs.Groups.{Group, hitsAt, without, moved, BeginsFrom, From, NextIs, lastKey}
+use Rattle.cursors.specs.Arrays.{StandsOn, ListAt, StandsFor, Cursor, cursors, noCursor, CursorAt, Hold, CursorsAre, leastOf, nextOf, blockSize, MinimaAre, RowTaken}
 use Rattle.cursors.specs.Scanning.{frontEntry, visible, hides, hiddenBy, rowFrom, movedCursor, overOther, takenOf, Scanned}
 use Rattle.cursors.specs.declared.Next.{Next}
 use Rattle.cursors.specs.declared.Scan.{Scan}
@@ -104,16 +105,16 @@ scanned-start rest after r =
 module _ (leaves docids bodies lasts masks follows : List ℕ) (n : ℕ) (starts matched : List ℕ) (docid : ℕ) (gs : List Group) (scan : Scan) (i : ℕ) (inside : i < n)
     (p : Scanned leaves docids bodies lasts masks follows n starts matched docid gs scan i) where
   -- the cursor at `i` stands on another docid
-  not-on : (l : List Entry) → ListAt leaves l (getD docids i 0) (getD bodies i 0) (getD lasts i 0) → (getD docids i 0 ≡ docid → ⊥)
+  not-on : (l : List Entry) → ListAt leaves l (getD docids i 0) (getD bodies i 0) (getD lasts i 0) → (StandsFor docid (getD docids i 0) (getD bodies i 0) → ⊥)
       → (without docid l ≡ l) × (frontEntry docid l ≡ nothing)
   not-on [] h o = (refl, refl)
   not-on (e ∷ es) h o =
-      let q = ne-eqb (e .docid) docid (λ (q : e .docid ≡ docid). o (h .same ∙ q)) in (simp q, simp q)
+      let q = ne-eqb (e .docid) docid (λ (q : e .docid ≡ docid). o (h .same ∙ q, λ _. h .some)) in (simp q, simp q)
 
   next-cursor : drop i (cursors gs) ≡ getD (cursors gs) i noCursor ∷ drop (i + 1) (cursors gs)
   next-cursor = rw add-one (drop-cons (cursors gs) i noCursor (omega (arith, p .counted)))
 
-  pub scanned-other : (rest after : ℕ) → (getD docids i 0 ≡ docid → ⊥) → rest ≤ scan .rest → rest ≤ getD docids i 0
+  pub scanned-other : (rest after : ℕ) → (StandsFor docid (getD docids i 0) (getD bodies i 0) → ⊥) → rest ≤ scan .rest → rest ≤ getD docids i 0
       → Scanned leaves docids bodies lasts masks follows n starts matched docid gs
       (record { hits = scan .hits; hidden = hiddenBy (scan .hidden) (getD follows i 0); taken = scan .taken; last = scan .last; rest = rest; moved = after }) (i + 1)
   scanned-other rest after o hr hi =
@@ -147,10 +148,10 @@ module _ (leaves docids bodies lasts masks follows : List ℕ) (n : ℕ) (starts
       here j q = subst (λ (x : ℕ). rest ≤ getD docids x 0) q hi
 
   -- the cursor at `i` stands on the docid
-  on-entry : (l : List Entry) → ListAt leaves l (getD docids i 0) (getD bodies i 0) (getD lasts i 0) → getD docids i 0 ≡ docid → docid < docidLimit
+  on-entry : (l : List Entry) → ListAt leaves l (getD docids i 0) (getD bodies i 0) (getD lasts i 0) → StandsFor docid (getD docids i 0) (getD bodies i 0)
       → (e : Entry) × (rest : List Entry) × (l ≡ e ∷ rest) × StandsOn leaves e rest docid (getD bodies i 0) (getD lasts i 0)
-  on-entry [] h o l = absurd (omega arith)
-  on-entry (e ∷ rest) h o l = (e, rest, refl, subst (λ (d : ℕ). StandsOn leaves e rest d (getD bodies i 0) (getD lasts i 0)) o h)
+  on-entry [] h o = let s = o .1 (h .0) in absurd (omega (arith, h .1))
+  on-entry (e ∷ rest) h o = (e, rest, refl, subst (λ (d : ℕ). StandsOn leaves e rest d (getD bodies i 0) (getD lasts i 0)) (o .0) h)
 
   -- the row with the hit of the cursor at `i`
   row-after : (b : Bool) (x : Hit) → scan .hits < length starts → scan .hits < length matched → BodyAt leaves (getD bodies i 0) (x .columns) → getD masks i 0 ≡ x .mask
@@ -173,14 +174,14 @@ module _ (leaves docids bodies lasts masks follows : List ℕ) (n : ℕ) (starts
       )
 
   module _ (pd pb after : ℕ) where
-    pub scanned-hit : i < length docids → i < length bodies → scan .hits < length starts → scan .hits < length matched → getD docids i 0 ≡ docid
+    pub scanned-hit : i < length docids → i < length bodies → scan .hits < length starts → scan .hits < length matched → StandsFor docid (getD docids i 0) (getD bodies i 0)
         → ((e : Entry) (rest : List Entry) → length leaves ≤ maxIndexBytes → StandsOn leaves e rest docid (getD bodies i 0) (getD lasts i 0) → ListAt leaves rest pd pb (getD lasts i 0))
         → Scanned leaves (set docids i pd) (set bodies i pb) lasts masks follows n (set starts (scan .hits) (getD bodies i 0)) (set matched (scan .hits) (getD masks i 0)) docid gs
         (record { hits = pick (hiddenBy (scan .hidden) (getD follows i 0)) (scan .hits) (scan .hits + 1); hidden = true; taken = scan .taken + 1; last = i; rest = scan .rest; moved = after }) (i + 1)
     scanned-hit hd hb hs hm o next =
         let c : Cursor = getD (cursors gs) i noCursor in
         let a = p .ahead i (omega arith) inside in
-        let s = on-entry (c .left) (a .list) o (p .limit) in
+        let s = on-entry (c .left) (a .list) o in
         go c refl a (s .0) (s .1) (s .2) (s .3)
       where
         go : (c : Cursor) → getD (cursors gs) i noCursor ≡ c → CursorAt leaves docids bodies lasts masks follows i c → (e : Entry) (rest : List Entry) → c .left ≡ e ∷ rest
@@ -238,7 +239,7 @@ module _ (leaves docids bodies lasts masks follows : List ℕ) (n : ℕ) (starts
       subst (Scanned leaves docids bodies lasts masks follows n starts matched docid gs scan) (omega arith)
       (subst (λ (b : Bool). Scanned leaves docids bodies lasts masks follows n starts matched docid gs (record { hits = scan .hits; hidden = b; taken = scan .taken; last = scan .last; rest = scan .rest; moved = scan .moved }) (at + 1))
       (ap (λ (b : Bool). hiddenBy b (getD follows at 0)) q ∙ sym q)
-      (scanned-other leaves docids bodies lasts masks follows n starts matched docid gs scan at (omega arith) before (scan .rest) (scan .moved) (here .0) (omega arith) (here .1)))
+      (scanned-other leaves docids bodies lasts masks follows n starts matched docid gs scan at (omega arith) before (scan .rest) (scan .moved) (λ s. here .0 (s .0)) (omega arith) (here .1)))
 
   -- a lower docid is below the others too
   pub scanned-lower : (m after : ℕ) (scan : Scan) → Scanned leaves docids bodies lasts masks follows n starts matched docid gs scan from
@@ -260,7 +261,7 @@ module _ (leaves docids bodies lasts masks follows : List ℕ) (n : ℕ) (starts
       }
 
   -- a cursor does not stand before a docid before which its list does not begin
-  head-from : (l : List Entry) (d body last : ℕ) → ListAt leaves l d body last → BeginsFrom docid l → docid ≤ finished → docid ≤ d
+  head-from : (l : List Entry) (d body last : ℕ) → ListAt leaves l d body last → BeginsFrom docid l → docid ≤ lastKey → docid ≤ d
   head-from [] d body last h b z = omega arith
   head-from (e ∷ es) d body last h b z = omega (arith, h .same)
 

@@ -1,8 +1,8 @@
 -- How the groups lie in flat arrays: a cursor for each list, group by group, newest leaf first. A cursor stands on the
 -- first entry that is left of its list: its docid, and where its body begins in the lent leaves.
 --
---     docids    docid of the entry; `finished` where the list has no entry left
---     bodies    place of the entry's body, after its docid number
+--     docids    docid of the entry, as its key; the last one where the list has no entry left
+--     bodies    place of the entry's body, after its docid number; 0 where the list has no entry left
 --     lasts     place of the list's last byte
 --     masks     bit i: the query's word number i matches the index word
 --     follows   0 for the first cursor of a group, 1 for the others
@@ -16,16 +16,13 @@ use lib.ListN.{length, getD, take, drop}
 use lib.Dec.{ltb, eqb}
 use Rattle.common.specs.Pick.{pick}
 use Rattle.common.specs.Bounds.{maxIndexBytes}
-use Rattle.doclist.specs.Doclist.{Entry, Columns, Entries, docidLimit, encodeFrom}
+use Rattle.doclist.specs.Docid.{docidLimit}
+use Rattle.doclist.specs.Doclist.{Entry, Columns, Entries, encodeFrom}
 use Rattle.row.specs.Row.{Hit, bodyBytes, RowIs}
-use Rattle.cursors.specs.Groups.{Group, hitsAt, moved, From, NextIs}
+use Rattle.cursors.specs.Groups.{Group, hitsAt, moved, From, lastKey, NextIs}
 use Rattle.cursors.specs.declared.Next.{Next}
-use Rattle.cursors.specs.declared.Next.the-variants.{Docid, End}
+use Rattle.cursors.specs.declared.Next.the-variants.{Docid, Last}
 use Rattle.cursors.specs.declared.Taken.{Taken}
-
--- no docid: the largest number of 64 bits
-abbrev pub finished : ℕ
-finished = 0xffff_ffff_ffff_ffff
 
 -- a body goes up to its first byte 0
 abbrev pub isOpen : ℕ → Bool
@@ -37,6 +34,7 @@ isOpen b = ltb 0 b
 pub record StandsOn (leaves : List ℕ) (e : Entry) (rest : List Entry) (docid body last : ℕ) : Type 0 where
   pub after : List ℕ
   pub same : docid ≡ e .docid
+  pub some : 0 < body
   pub bytes : drop body leaves ≡ bodyBytes (e .columns) ++ (encodeFrom (e .docid) rest ++ after)
   pub ends : last + 1 ≡ body + length (bodyBytes (e .columns)) + length (encodeFrom (e .docid) rest)
   pub limit : e .docid < docidLimit
@@ -45,8 +43,12 @@ pub record StandsOn (leaves : List ℕ) (e : Entry) (rest : List Entry) (docid b
 
 -- what is left of a list stands in the leaves
 abbrev pub ListAt : List ℕ → List Entry → ℕ → ℕ → ℕ → Type 0
-ListAt leaves [] docid body last = docid ≡ finished
+ListAt leaves [] docid body last = (docid ≡ lastKey) × (body ≡ 0)
 ListAt leaves (e ∷ rest) docid body last = StandsOn leaves e rest docid body last
+
+-- a cursor at the docid `at` has an entry for `docid`: on the last docid only if it has a body
+abbrev pub StandsFor : ℕ → ℕ → ℕ → Type 0
+StandsFor docid at body = (at ≡ docid) × (at ≡ lastKey → 0 < body)
 
 -- ---- all cursors
 
@@ -95,11 +97,11 @@ pub record CursorsAre (leaves docids bodies lasts masks follows : List ℕ) (n :
 -- ---- the least docid
 
 abbrev pub leastOf : List ℕ → ℕ
-leastOf [] = finished
+leastOf [] = lastKey
 leastOf (d ∷ ds) = min d (leastOf ds)
 
 abbrev pub nextOf : ℕ → Next
-nextOf docid = pick (eqb docid finished) End (Docid docid)
+nextOf docid = pick (eqb docid lastKey) Last (Docid docid)
 
 -- ---- blocks of cursors
 

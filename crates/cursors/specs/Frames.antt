@@ -8,11 +8,11 @@ use lib.ListN.{length, getD, take, set}
 use lib.Dec.{eqb}
 use Rattle.common.specs.Pick.{pick, either}
 use Rattle.common.specs.Frame.{KeptFrom}
-use Rattle.doclist.specs.Doclist.{docidLimit}
-use Rattle.cursors.specs.Groups.{Group, From}
-use Rattle.cursors.specs.Arrays.{finished, CursorRoom, CursorsAre, leastOf, nextOf, blockSize, blocksOf, blockOf, MinimaAre, RowTaken, Passed}
+use Rattle.doclist.specs.Docid.{docidLimit}
+use Rattle.cursors.specs.Groups.{Group, From, lastKey}
+use Rattle.cursors.specs.Arrays.{CursorRoom, CursorsAre, leastOf, nextOf, blockSize, blocksOf, blockOf, MinimaAre, RowTaken, Passed}
 use Rattle.cursors.specs.declared.Next.{Next}
-use Rattle.cursors.specs.declared.Next.the-variants.{End}
+use Rattle.cursors.specs.declared.Next.the-variants.{Last}
 use Rattle.cursors.specs.declared.Taken.{Taken}
 
 -- the arrays of cursors that move
@@ -37,7 +37,7 @@ pub record TakeRoom (n : ℕ) (docids bodies lasts masks follows mins starts mat
 
 -- no row is taken: the answer is that of no cursors, and every array is as it was
 pub record NotTaken (before after : MovingArrays) (room hits : HitArrays) (r : Taken) : Type 0 where
-  pub answer : r ≡ record { hits = 0; taken = 0; last = 0; rest = finished; next = End }
+  pub answer : r ≡ record { hits = 0; taken = 0; last = 0; rest = lastKey; next = Last }
   pub cursors-same : after ≡ before
   pub hits-same : hits ≡ room
 
@@ -95,7 +95,7 @@ pub record MoveRoom (n : ℕ) (docids bodies lasts mins : List ℕ) : Type 0 whe
 
 -- nothing is passed over
 pub record NotPassed (before after : MovingArrays) (r : Next) : Type 0 where
-  pub answer : r ≡ End
+  pub answer : r ≡ Last
   pub cursors-same : after ≡ before
 
 -- whether a docid is among some
@@ -126,7 +126,7 @@ pub record Passes (i rest n : ℕ) (leaves lasts : List ℕ) (before after : Mov
       → CursorsAre leaves (before .docids) (before .bodies) lasts masks follows n groups
       → MinimaAre (before .docids) n (before .mins)
       → i < n
-      → rest ≤ finished
+      → rest ≤ lastKey
       → ((k : ℕ) → k < n → (k ≡ i → ⊥) → rest ≤ getD (before .docids) k 0)
       → Passed leaves (after .docids) (after .bodies) lasts masks follows n (after .mins) i rest groups r
   -- whatever they hold

@@ -7,11 +7,11 @@ use mathlib.Core.Path.{_≡_}
 use mathlib.Core.List.{List, [], _∷_, _++_, List·Memᴰ}
 use lib.Dec.{ltb, eqb}
 use Rattle.common.specs.Pick.{pick}
-use Rattle.doclist.specs.Doclist.{Entry, docidLimit}
+use Rattle.doclist.specs.Doclist.{Entry}
 use Rattle.meaning.specs.Index.{MaybeEntry, nothing, entry, entryFor, orElse}
 use Rattle.row.specs.Row.{Hit}
 use Rattle.cursors.specs.declared.Next.{Next}
-use Rattle.cursors.specs.declared.Next.the-variants.{Docid, End}
+use Rattle.cursors.specs.declared.Next.the-variants.{Docid, Last}
 
 -- one word of the index: the query words that it matches (bit i for word number i), and its lists, newest leaf first
 pub record Group : Type 0 where
@@ -83,7 +83,16 @@ pub record GroupsBegin (docid : ℕ) (groups : List Group) : Type 0 where
   pub in-lists : List·Memᴰ (first ∷ others) (group .lists)
   pub same : first .docid ≡ docid
 
--- the next docid is the least with which a list begins; the search ends where no list has an entry left
+-- the last docid, by its key
+abbrev pub lastKey : ℕ
+lastKey = 0xffff_ffff_ffff_ffff
+
+-- the next docid is the least with which a list begins; where no list begins before the last docid, the row there is the last
 abbrev pub NextIs : List Group → Next → Type 0
-NextIs groups (Docid docid) = From docid groups × GroupsBegin docid groups × (docid < docidLimit)
-NextIs groups End = EveryGroup (λ l. l ≡ []) groups
+NextIs groups (Docid docid) = From docid groups × GroupsBegin docid groups × (docid < lastKey)
+NextIs groups Last = From lastKey groups
+
+-- the docid of the row to go on with
+abbrev pub rowAt : Next → ℕ
+rowAt (Docid docid) = docid
+rowAt Last = lastKey

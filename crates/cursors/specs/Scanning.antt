@@ -10,11 +10,12 @@ use lib.Dec.{ltb, eqb}
 use Rattle.common.specs.Pick.{pick, both}
 use Rattle.common.specs.Bytes.{part}
 use Rattle.common.specs.Bounds.{maxIndexBytes}
-use Rattle.doclist.specs.Doclist.{Entry, docidLimit}
+use Rattle.doclist.specs.Docid.{docidLimit}
+use Rattle.doclist.specs.Doclist.{Entry}
 use Rattle.meaning.specs.Index.{MaybeEntry, nothing, entry}
 use Rattle.row.specs.Row.{Hit, RowIs}
-use Rattle.cursors.specs.Groups.{Group, without}
-use Rattle.cursors.specs.Arrays.{finished, Cursor, cursors, noCursor, CursorAt, leastOf}
+use Rattle.cursors.specs.Groups.{Group, lastKey, without}
+use Rattle.cursors.specs.Arrays.{Cursor, cursors, noCursor, CursorAt, leastOf}
 use Rattle.cursors.specs.declared.Next.{Next}
 use Rattle.cursors.specs.declared.Scan.{Scan}
 use Rattle.cursors.specs.declared.Taken.{Taken}
@@ -63,7 +64,7 @@ overHit scan covered i docid =
 -- a block's docids are met anew, and joined to those before
 abbrev pub begun : Scan → Scan
 begun scan =
-    record { hits = scan .hits; hidden = scan .hidden; taken = scan .taken; last = scan .last; rest = finished; moved = finished }
+    record { hits = scan .hits; hidden = scan .hidden; taken = scan .taken; last = scan .last; rest = lastKey; moved = lastKey }
 
 abbrev pub joined : Scan → Scan → Scan
 joined scan block =

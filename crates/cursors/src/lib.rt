@@ -4,6 +4,7 @@
 // after its docid number; all numbers are varints, and in a body only the closing one has a byte 0:
 //
 //     docid (later its difference)   body: for each column [1, column] position + 2, ..   0
+use doclist::keys::MAX_KEY;
 use varint::Varint;
 ghost use mathlib.Core.Path.{_≡_};
 ghost use mathlib.Core.Logic.{_↔_};
@@ -15,16 +16,16 @@ ghost use lib.Dec.{ltb};
 ghost use Rattle.common.specs.Pick.{pick, both};
 ghost use Rattle.common.specs.Bytes.{part, span};
 ghost use Rattle.doclist.specs.Doclist.{Entry};
-ghost use Rattle.cursors.specs.Groups.{Group, withoutBefore, NextIs};
+ghost use Rattle.cursors.specs.Groups.{Group, withoutBefore, lastKey, NextIs};
 ghost use Rattle.common.specs.Frame.{KeptFrom};
 ghost use Rattle.common.specs.Bounds.{maxIndexBytes};
-ghost use Rattle.cursors.specs.Arrays.{finished, isOpen, StandsOn, ListAt, CursorsAre, leastOf, nextOf, blockSize, blocksOf, MinimaAre};
+ghost use Rattle.cursors.specs.Arrays.{isOpen, StandsOn, ListAt, StandsFor, CursorsAre, leastOf, nextOf, blockSize, blocksOf, MinimaAre};
 ghost use Rattle.cursors.specs.Frames.{Advances, otherThan, RowFrame, among, nextFrom, Passes};
 ghost use Rattle.cursors.specs.Scanning.{begun, joined, overOther, overHit, takenOf, Fits, BlockTaken, Scanned};
 ghost use Rattle.cursors.specs.declared.Scan.{Scan};
 
-// Stands for no docid. Docids are below 2^63.
-const FINISHED: u64 = 0xffff_ffff_ffff_ffff;
+// The body of a cursor that has no entry left; it stands on the last docid then.
+const NO_BODY: u16 = 0;
 
 // All leaves together have at most 65,536 bytes, so this is the last place in them.
 const LAST_PLACE: usize = 65535;
@@ -32,14 +33,14 @@ const LAST_PLACE: usize = 65535;
 // The cursors stand in blocks of so many.
 const BLOCK: usize = 16;
 
-// The docid to go on with.
+// The docid to go on with, before the last one; or the last, where there may be no entry.
 pub enum Next {
     Docid(u64),
-    End,
+    Last,
 }
 
 // What taking a row gives: how many hits it has; how many cursors stood on its docid, hidden ones too, and the last of them;
-// the least docid of the others, FINISHED if there are none; where to go on.
+// the least docid of the others, the last docid if there are none; where to go on.
 pub struct Taken {
     pub hits: usize,
     pub taken: usize,
@@ -83,13 +84,13 @@ fn open_bytes(s: &[u8]) -> usize
 // Where the cursor stands after the entry whose body is at `body`, in a list whose last byte is at `last`.
 fn entry_after(leaves: &[u8], docid: u64, body: u16, last: u16) -> Place
     ensures content { λ r. ⌜ ((e : Entry) (rest : List Entry) → length (now (leaves .entry)) ≤ maxIndexBytes → StandsOn (now (leaves .entry)) e rest docid body last → ListAt (now (leaves .entry)) rest (r .docid) (r .body) last) ⌝ }
-    ensures onward { λ r. ⌜ (docid < finished → docid + body < r .docid + r .body) × (docid ≤ r .docid) ⌝ }
+    ensures onward { λ r. ⌜ (docid < lastKey → docid < r .docid) × (docid ≤ r .docid) ⌝ }
 {
     let from = body as usize;
     let to = last as usize;
     let end = Place {
-        docid: FINISHED,
-        body,
+        docid: MAX_KEY,
+        body: NO_BODY,
     };
     if to < from {
         return end;
@@ -104,7 +105,10 @@ fn entry_after(leaves: &[u8], docid: u64, body: u16, last: u16) -> Place
     let Varint::Value { value, next } = varint::read(leaves, close + 1) else {
         return end;
     };
-    if doclist::DOCID_LIMIT <= docid {
+    if value == 0 {
+        return end;
+    }
+    if MAX_KEY - docid < value {
         return end;
     }
     if LAST_PLACE < next {
@@ -130,8 +134,8 @@ fn lesser(a: u64, b: u64) -> u64
 fn next_of(docid: u64) -> Next
     ensures { λ r. ⌜ r ≡ nextOf docid ⌝ }
 {
-    if docid == FINISHED {
-        return Next::End;
+    if docid == MAX_KEY {
+        return Next::Last;
     }
     Next::Docid(docid)
 }
@@ -139,7 +143,7 @@ fn next_of(docid: u64) -> Next
 fn least_of(docids: &[u64]) -> u64
     ensures { λ r. ⌜ r ≡ leastOf (now (docids .entry)) ⌝ }
 {
-    let mut least = FINISHED;
+    let mut least = MAX_KEY;
     let mut i: usize = 0;
     while i < docids.len() {
         least = lesser(least, docids[i]);
@@ -218,8 +222,8 @@ fn begin_block(scan: Scan) -> Scan
         hidden: scan.hidden,
         taken: scan.taken,
         last: scan.last,
-        rest: FINISHED,
-        moved: FINISHED,
+        rest: MAX_KEY,
+        moved: MAX_KEY,
     }
 }
 
@@ -250,6 +254,19 @@ fn end_scan(scan: Scan, next: Next) -> Taken
     }
 }
 
+// Whether a cursor has no entry for the docid: it stands on another, or it has none left.
+fn is_elsewhere(at: u64, body: u16, docid: u64) -> bool
+    ensures { λ r. ⌜ ((r ≡ false) ↔ StandsFor docid at body) ⌝ }
+{
+    if at != docid {
+        return true;
+    }
+    if at != MAX_KEY {
+        return false;
+    }
+    body == NO_BODY
+}
+
 // Takes what the cursors from `from` up to `to` give to the row at a docid; those on it move on.
 fn take_block(
     docid: u64,
@@ -274,16 +291,17 @@ fn take_block(
     let mut i = from;
     while i < to {
         let at = docids[i];
+        let body = bodies[i];
         let covered = is_hidden(scan.hidden, follows[i]);
-        if at != docid {
+        if is_elsewhere(at, body, docid) {
             scan = over_other(scan, covered, at);
             i += 1;
             continue;
         }
         let hits = scan.hits;
-        starts[hits] = bodies[i];
+        starts[hits] = body;
         matched[hits] = masks[i];
-        let place = entry_after(leaves, docid, bodies[i], lasts[i]);
+        let place = entry_after(leaves, docid, body, lasts[i]);
         docids[i] = place.docid;
         bodies[i] = place.body;
         scan = over_hit(scan, covered, i, place.docid);
@@ -409,10 +427,10 @@ pub fn advance(
         hidden: false,
         taken: 0,
         last: 0,
-        rest: FINISHED,
-        moved: FINISHED,
+        rest: MAX_KEY,
+        moved: MAX_KEY,
     };
-    let none = end_scan(scan, Next::End);
+    let none = end_scan(scan, Next::Last);
     if !can_move(n, docids.len(), bodies.len(), lasts.len(), mins.len()) {
         return none;
     }
@@ -505,7 +523,7 @@ pub fn pass(
 ) -> Next
     ensures { λ r. ⌜ Passes i rest n (now (leaves .entry)) (now (lasts .entry)) (record { docids = now (docids .entry); bodies = now (bodies .entry); mins = now (mins .entry) }) (record { docids = now (docids .exit); bodies = now (bodies .exit); mins = now (mins .exit) }) r ⌝ }
 {
-    let none = Next::End;
+    let none = Next::Last;
     if n <= i {
         return none;
     }

@@ -1,6 +1,6 @@
 -- Numbers that a run accepts are those of well-formed content: each state says what content is still to come, and a step
 -- that is taken back puts its number in front of it.
-use Prim.Native.Nat.{ℕ, zero, suc, _+_, _-_, _^_, _≤_, _<_}
+use Prim.Native.Nat.{ℕ, zero, suc, _+_, _-_, _≤_, _<_}
 use native.Mathlib.Omega.{arith}
 use native.Mathlib.Numerals.{add-one}
 use mathlib.Core.Path.{_≡_, refl, sym, ap, ap₂, _∙_, subst}
@@ -10,11 +10,14 @@ use lib.Dec.{ltb, leb, eqb}
 use borrow.Author.Tests.{ltb-true, ltb-false, leb-false, eqb-true, eqb-false}
 use Rattle.common.proofs.Cases.{pick-case}
 use mathlib.Core.Logic.{⊎-elim}
-use Rattle.doclist.specs.Doclist.{Column, Entry, docidLimit, positionLimit, Rising, NotEmpty, Columns, Entries, positionNumbers, announced, columnNumbers}
+use Rattle.varint.specs.Varint.{varintLimit}
+use Rattle.doclist.specs.Docid.{docidLimit, zeroKey, difference, keyOfBits}
+use Rattle.doclist.specs.Doclist.{Column, Entry, positionLimit, Rising, NotEmpty, Columns, Entries, positionNumbers, announced, columnNumbers}
 use Rattle.doclist.specs.Checking.{positionState, checkStep, endedOf}
 use Rattle.doclist.specs.declared.State.{State}
 use Rattle.doclist.specs.declared.State.the-variants.{Start, Between, Open, Name, Named, Broken}
 use Rattle.doclist.specs.declared.ListCheck.the-variants as list-check
+use Rattle.doclist.proofs.Docids.{key-limit, key-bits, difference-later}
 use Rattle.doclist.proofs.Numbers.{Small, listNumbers, run, refused-not}
 
 -- ---- what is still to come
@@ -22,7 +25,7 @@ use Rattle.doclist.proofs.Numbers.{Small, listNumbers, run, refused-not
 -- the whole list
 pub record ToStart (count : ℕ) (vs : List ℕ) : Type 0 where
   pub entries : List Entry
-  pub numbers : vs ≡ listNumbers 0 entries
+  pub numbers : vs ≡ listNumbers zeroKey entries
   pub some : 0 < length entries
   pub good : Entries 0 count entries
 
@@ -80,7 +83,7 @@ columns-of count z [] cs r h = (cs, refl, lower count cs h)
 columns-of count z (p ∷ ps) cs r h = (record { column = 0; positions = p ∷ ps } ∷ cs, refl, (omega arith, z, tt, r, h))
 
 module _ (count : ℕ) (pos : 0 < count) where
-  back-entry : (low d before v : ℕ) (vs : List ℕ) → v ≡ d - before → low ≤ d → d < docidLimit → ToPlace count d 0 0 0 vs
+  back-entry : (low d before v : ℕ) (vs : List ℕ) → v ≡ difference before d → low ≤ d → d < docidLimit → ToPlace count d 0 0 0 vs
       → (e : Entry) × (es : List Entry) × (v ∷ vs ≡ listNumbers before (e ∷ es)) × Entries low count (e ∷ es)
   back-entry low d before v vs ev hl hd t =
       let k = columns-of count pos (t .positions) (t .columns) (t .rising) (t .above) in (
@@ -164,7 +167,7 @@ module _ (count : ℕ) (pos : 0 < count) where
 
       go : (v ≡ 0 → ⊥) → v < docidLimit - d → P (Open (d + v) 0 0 0)
       go z l t =
-          let k = back-entry (suc d) (d + v) d v vs (omega arith) (omega arith) (omega arith) t in
+          let k = back-entry (suc d) (d + v) d v vs (omega (arith, difference-later d (d + v) (omega arith) (omega arith))) (omega arith) (omega arith) t in
           record { entries = k .0 ∷ k .1; numbers = k .2; good = k .3 }
 
   back-name : (d c v : ℕ) (vs : List ℕ) → ToCome count (checkStep count (Name d c) v) vs → ToName count d c (v ∷ vs)
@@ -178,9 +181,9 @@ module _ (count : ℕ) (pos : 0 < count) where
       go : c < v → v < count → P (Named d v)
       go m l t = record { column = v; tail = vs; numbers = refl; more = m; less = l; rest = t }
 
-  back : (q : State) (v : ℕ) (vs : List ℕ) → v < 2 ^ 63 → ToCome count (checkStep count q v) vs → ToCome count q (v ∷ vs)
+  back : (q : State) (v : ℕ) (vs : List ℕ) → v < varintLimit → ToCome count (checkStep count q v) vs → ToCome count q (v ∷ vs)
   back Start v vs h t =
-      let k = back-entry 0 v 0 v vs (omega arith) (omega arith) h t in
+      let k = back-entry 0 (keyOfBits v) zeroKey v vs (sym (key-bits v h)) (omega arith) (key-limit v) t in
       record { entries = k .0 ∷ k .1; numbers = k .2; some = omega arith; good = k .3 }
   back (Between d) v vs h t = back-between d v vs t
   back (Open d c b l) v vs h t = back-open d c b l v vs t

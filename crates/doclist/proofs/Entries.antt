@@ -9,7 +9,9 @@ use Rattle.common.specs.Bounds.{maxColumns}
 use Rattle.varint.specs.Varint.{encode, maxVarint, readAt}
 use Rattle.varint.specs.declared.Varint.the-variants.{Value}
 use Rattle.varint.proofs.Laws.{encode-pos}
-use Rattle.doclist.specs.Doclist.{Entry, docidLimit, Columns, Entries, WellFormed, columnNumbers, entryNumbers, encodeAll, entryBytes, encodeFrom, encodeList}
+use Rattle.doclist.specs.Docid.{docidLimit, zeroKey, difference}
+use Rattle.doclist.specs.Doclist.{Entry, Columns, Entries, WellFormed, columnNumbers, entryNumbers, encodeAll, entryBytes, encodeFrom, encodeList}
+use Rattle.doclist.proofs.Docids.{difference-limit}
 use Rattle.doclist.proofs.Numbers.{Small, small-append, next-number, listNumbers}
 use Rattle.doclist.proofs.Law.{small-columns, small-entries}
 
@@ -71,14 +73,14 @@ encode-append before (e ∷ passed) es =
 
 pub small-entry : (low before count : ℕ) (e : Entry) → count ≤ maxColumns → GoodEntry low count e → Small (entryNumbers before e)
 small-entry low before count e few g =
-    (omega (arith, g .limit), small-append (columnNumbers (e .columns)) (0 ∷ []) (small-columns 0 count (e .columns) few (g .columns)) (omega arith, tt))
+    (difference-limit before (e .docid), small-append (columnNumbers (e .columns)) (0 ∷ []) (small-columns 0 count (e .columns) few (g .columns)) (omega arith, tt))
 
-pub small-list : (count : ℕ) (es : List Entry) → WellFormed count es → Small (listNumbers 0 es)
-small-list count es w = small-entries count 0 0 es (w .few-columns) (w .entries)
+pub small-list : (count : ℕ) (es : List Entry) → WellFormed count es → Small (listNumbers zeroKey es)
+small-list count es w = small-entries count 0 zeroKey es (w .few-columns) (w .entries)
 
 pub entry-pos : (before : ℕ) (e : Entry) → 0 < length (entryBytes before e)
 entry-pos before e =
-    let p : 0 < length (encode (e .docid - before)) = encode-pos maxVarint (e .docid - before) (omega arith) in
+    let p : 0 < length (encode (difference before (e .docid))) = encode-pos maxVarint (difference before (e .docid)) (omega arith) in
     simp length-append (omega arith)
 
 pub entries-pos : (before : ℕ) (es : List Entry) → 0 < length es → 0 < length (encodeFrom before es)
@@ -86,15 +88,15 @@ entries-pos before [] z = absurd (omega arith)
 entries-pos before (e ∷ es) z = rw (length-append (entryBytes before e) (encodeFrom (e .docid) es)) (omega (arith, entry-pos before e))
 
 pub list-pos : (count : ℕ) (es : List Entry) → WellFormed count es → 0 < length (encodeList es)
-list-pos count es w = entries-pos 0 es (w .some-entry)
+list-pos count es w = entries-pos zeroKey es (w .some-entry)
 
 -- ---- reading an entry
 
 -- the docid's number, and the numbers of the columns after it
-pub entry-number : (s : List ℕ) (at before : ℕ) (e : Entry) (t : List ℕ) → e .docid < docidLimit → drop at s ≡ entryBytes before e ++ t
-    → (readAt s at ≡ Value (e .docid - before) (at + length (encode (e .docid - before))))
-    × (drop (at + length (encode (e .docid - before))) s ≡ encodeAll (columnNumbers (e .columns) ++ (0 ∷ [])) ++ t)
-entry-number s at before e t h b = next-number s at (e .docid - before) (columnNumbers (e .columns) ++ (0 ∷ [])) t (omega arith) b
+pub entry-number : (s : List ℕ) (at before : ℕ) (e : Entry) (t : List ℕ) → drop at s ≡ entryBytes before e ++ t
+    → (readAt s at ≡ Value (difference before (e .docid)) (at + length (encode (difference before (e .docid)))))
+    × (drop (at + length (encode (difference before (e .docid)))) s ≡ encodeAll (columnNumbers (e .columns) ++ (0 ∷ [])) ++ t)
+entry-number s at before e t b = next-number s at (difference before (e .docid)) (columnNumbers (e .columns) ++ (0 ∷ [])) t (difference-limit before (e .docid)) b
 
 -- the entry in front of others
 pub first-entry : (s : List ℕ) (at before : ℕ) (e : Entry) (es : List Entry) (t : List ℕ) → drop at s ≡ encodeFrom before (e ∷ es) ++ t

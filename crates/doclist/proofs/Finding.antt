@@ -1,5 +1,5 @@
 -- How the search for a docid's entry goes on, a number at a time, and what it finds in a well-formed list: the entry's place.
-use Prim.Native.Nat.{ℕ, zero, suc, _+_, _-_, _^_, _≤_, _<_}
+use Prim.Native.Nat.{ℕ, zero, suc, _+_, _-_, _≤_, _<_}
 use native.Mathlib.Omega.{arith}
 use mathlib.Core.Path.{_≡_, refl, sym, ap, ap₂, _∙_, subst}
 use mathlib.Core.Bool.{false}
@@ -13,9 +13,10 @@ use Rattle.common.proofs.Cases.{split}
 use Rattle.common.proofs.Lists.{drop-past, drop-room}
 use Rattle.common.proofs.Numbers.{within-true}
 use Rattle.common.specs.Bounds.{maxColumns}
-use Rattle.varint.specs.Varint.{encode, maxVarint, readAt}
+use Rattle.varint.specs.Varint.{encode, maxVarint, readAt, varintLimit}
 use Rattle.varint.specs.declared.Varint.the-variants.{Value, Refused}
 use Rattle.varint.proofs.Laws.{stored-at, reads, encode-pos, next-after}
+use Rattle.doclist.specs.Docid.{difference}
 use Rattle.doclist.specs.Doclist.{Entry, Entries, WellFormed, columnNumbers, encodeAll, entryBytes, encodeFrom, encodeList, entryPlaceFrom, entryPlace}
 use Rattle.doclist.specs.Checking.{Sane, checkStep, notFoundOf, onClosed, findFrom, findOf}
 use Rattle.doclist.specs.declared.State.{State}
@@ -27,6 +28,7 @@ use denote.Enum.Declared.{tagOf}
 use Rattle.doclist.proofs.State.{the-type}
 use Rattle.doclist.proofs.Steps.{sane-step}
 use Rattle.doclist.proofs.Places.{place-behind}
+use Rattle.doclist.proofs.Docids.{difference-limit}
 use Rattle.doclist.proofs.Numbers.{Small, all-append}
 use Rattle.doclist.proofs.Walking.{StateInside, Leads, StateReady, first, later, entry-stays}
 use Rattle.doclist.proofs.Law.{small-columns}
@@ -151,14 +153,14 @@ closing vs t =
 
 module _ (count : ℕ) (s : List ℕ) (docid : ℕ) where
   -- a number that is stored at the place `i`
-  take-number : (v k start i : ℕ) (q : State) (t : List ℕ) → length s ≤ i + k → v < 2 ^ 63 → drop i s ≡ encode v ++ t
+  take-number : (v k start i : ℕ) (q : State) (t : List ℕ) → length s ≤ i + k → v < varintLimit → drop i s ≡ encode v ++ t
       → (j : ℕ) × (length s ≤ i + length (encode v) + j)
       × (findFrom k count s docid start i q
       ≡ onClosed docid start (i + length (encode v)) (checkStep count q v) (λ from. findFrom j count s docid from (i + length (encode v)) (checkStep count q v)))
   take-number v k start i q t f m e =
       let p : 0 < length (encode v) = encode-pos maxVarint v (omega arith) in
       let room = drop-room s i (encode v) t e in
-      find-again count s docid start i q k v (i + length (encode v)) f (omega arith) (reads maxVarint s i v t (omega arith) m e) (omega arith)
+      find-again count s docid start i q k v (i + length (encode v)) f (omega arith) (reads maxVarint s i v t (omega arith) (omega arith) m e) (omega arith)
 
   -- numbers that lead on inside an entry
   take-inside : (vs : List ℕ) (k start i : ℕ) (q r : State) (t : List ℕ) → length s ≤ i + k → Small vs → Leads count q vs r → drop i s ≡ encodeAll vs ++ t
@@ -203,8 +205,8 @@ module _ (count : ℕ) (s : List ℕ) (docid : ℕ) where
       → findFrom k count s docid i i q ≡ entryPlaceFrom i before (e ∷ es) docid
   find-entry {q} {before} e es k i r few h f b more =
       let st = entry-stays count e r (h .0) (h .1) (h .2) in
-      let vs : List ℕ = (e .docid - before) ∷ columnNumbers (e .columns) in
-      let m : Small vs = (omega (arith, h .1), small-columns 0 count (e .columns) few (h .2)) in
+      let vs : List ℕ = difference before (e .docid) ∷ columnNumbers (e .columns) in
+      let m : Small vs = (difference-limit before (e .docid), small-columns 0 count (e .columns) few (h .2)) in
       let a = take-closed vs (e .docid) (st .column) (st .base) (st .low) k i i q (encodeFrom (e .docid) es) f m (st .leads) b in
       let n : ℕ = i + length (entryBytes before e) in
       a .2

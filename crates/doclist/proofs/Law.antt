@@ -1,5 +1,5 @@
 -- A byte string is accepted exactly where it is the encoding of well-formed entries.
-use Prim.Native.Nat.{ℕ, zero, suc, _^_, _≤_, _<_}
+use Prim.Native.Nat.{ℕ, zero, suc, _≤_, _<_}
 use native.Mathlib.Omega.{arith}
 use mathlib.Core.Path.{_≡_, refl, sym, ap, _∙_}
 use mathlib.Core.Logic.{_↔_}
@@ -10,11 +10,14 @@ use Rattle.common.specs.Bytes.{within}
 use Rattle.common.proofs.Cases.{bool-case}
 use Rattle.common.proofs.Numbers.{within-true, within-least, within-most}
 use Rattle.common.specs.Bounds.{maxColumns}
+use Rattle.varint.specs.Varint.{varintLimit}
+use Rattle.doclist.specs.Docid.{zeroKey}
 use Rattle.doclist.specs.Doclist.{Column, Entry, positionLimit, Rising, Columns, Entries, WellFormed, positionNumbers, announced, columnNumbers, encodeAll, encodeList}
 use Rattle.doclist.specs.Checking.{checkFrom, checkOf}
 use Rattle.doclist.specs.declared.State.the-variants.{Start}
 use Rattle.doclist.specs.declared.ListCheck.{ListCheck}
 use Rattle.doclist.specs.declared.ListCheck.the-variants.{Accepted, Refused}
+use Rattle.doclist.proofs.Docids.{difference-limit}
 use Rattle.doclist.proofs.Numbers.{Small, small-append, listNumbers, list-bytes, refused-not, taken, run-numbers}
 use Rattle.doclist.proofs.Walking.{accepts}
 use Rattle.doclist.proofs.Content.{content}
@@ -25,7 +28,7 @@ pub small-positions : (l b : ℕ) (ps : List ℕ) → Rising l positionLimit ps 
 small-positions l b [] h = tt
 small-positions l b (p ∷ ps) h = (omega (arith, h .1), small-positions (suc p) p ps (h .2))
 
-small-announced : (n : ℕ) → n < 2 ^ 63 → Small (announced n)
+small-announced : (n : ℕ) → n < varintLimit → Small (announced n)
 small-announced zero h = tt
 small-announced (suc n) h = (omega arith, (h, tt))
 
@@ -38,7 +41,7 @@ small-columns l count (c ∷ cs) m h =
 pub small-entries : (count l b : ℕ) (es : List Entry) → count ≤ maxColumns → Entries l count es → Small (listNumbers b es)
 small-entries count l b [] m h = tt
 small-entries count l b (e ∷ es) m h = (
-  omega (arith, h .1),
+  difference-limit b (e .docid),
   small-append (columnNumbers (e .columns)) (0 ∷ listNumbers (e .docid) es) (small-columns 0 count (e .columns) m (h .2))
       (omega arith, small-entries count (suc (e .docid)) (e .docid) es m (h .3)),
 )
@@ -60,7 +63,7 @@ walk-law count s l h e =
     let k = content count l (t .numbers) Start (t .small) (t .accepted) in (
       k .entries,
       record { some-column = l; few-columns = h; some-entry = k .some; entries = k .good },
-      t .bytes ∙ ap encodeAll (k .numbers) ∙ sym (list-bytes 0 (k .entries)),
+      t .bytes ∙ ap encodeAll (k .numbers) ∙ sym (list-bytes zeroKey (k .entries)),
     )
 
 pub list-law : (count : ℕ) (s : List ℕ) → (checkOf count s ≡ Accepted) ↔ ((es : List Entry) × WellFormed count es × (s ≡ encodeList es))
@@ -77,9 +80,9 @@ list-law count s = (there, λ h. back (h .0) (h .1) (h .2))
 
     back : (es : List Entry) → WellFormed count es → s ≡ encodeList es → checkOf count s ≡ Accepted
     back es w e =
-        let m = small-entries count 0 0 es (w .few-columns) (w .entries) in
+        let m = small-entries count 0 zeroKey es (w .few-columns) (w .entries) in
         check-walk count s (w .some-column) (w .few-columns)
-        ∙ run-numbers count s (listNumbers 0 es) (length s) 0 Start (omega arith) m (e ∙ list-bytes 0 es)
+        ∙ run-numbers count s (listNumbers zeroKey es) (length s) 0 Start (omega arith) m (e ∙ list-bytes zeroKey es)
         ∙ accepts count es (w .some-entry) (w .entries)
 
 -- an answer that is what checking gives tells exactly the lists

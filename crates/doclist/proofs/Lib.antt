@@ -1,4 +1,5 @@
 -- The laws of this crate, in the order in which they build on each other.
+pub mod Docids
 pub mod Steps
 pub mod Numbers
 pub mod Walking
@@ -9,4 +10,5 @@ pub mod Entries
 pub mod Places
 pub mod Finding
 pub mod Spots
+pub mod Nine
 pub mod Examples

@@ -1,15 +1,16 @@
 -- A list's bytes are its numbers, stored one after the other, and checking the bytes is a run over these numbers.
-use Prim.Native.Nat.{ℕ, zero, suc, _+_, _-_, _^_, _≤_, _<_}
+use Prim.Native.Nat.{ℕ, zero, suc, _+_, _≤_, _<_}
 use native.Mathlib.Omega.{arith}
 use mathlib.Core.Path.{_≡_, refl, sym, ap, ap₂, _∙_}
 use mathlib.Core.List.{List, [], _∷_, _++_, append-assoc}
 use lib.ListN.{length, drop, drop-of-length-le, length-drop, length-append}
 use Rattle.common.proofs.Cases.{split}
 use Rattle.common.proofs.Lists.{drop-past, drop-room}
-use Rattle.varint.specs.Varint.{encode, maxVarint, readAt}
+use Rattle.varint.specs.Varint.{encode, maxVarint, varintLimit, readAt}
 use Rattle.varint.specs.declared.Varint.{Varint}
 use Rattle.varint.specs.declared.Varint.the-variants.{Value, Refused}
 use Rattle.varint.proofs.Laws.{stored-at, reads, encode-pos, encode-split, next-after}
+use Rattle.doclist.specs.Docid.{difference}
 use Rattle.doclist.specs.Doclist.{Entry, columnNumbers, entryNumbers, encodeAll, entryBytes, encodeFrom}
 use Rattle.doclist.specs.Checking.{checkStep, endedOf, checkFrom}
 use Rattle.doclist.specs.declared.State.{State}
@@ -21,7 +22,7 @@ use Rattle.doclist.proofs.Steps.{check-end, check-refused, check-value,
 
 abbrev pub Small : List ℕ → Type 0
 Small [] = Unit {0}
-Small (v ∷ vs) = (v < 2 ^ 63) × Small vs
+Small (v ∷ vs) = (v < varintLimit) × Small vs
 
 pub small-append : (xs ys : List ℕ) → Small xs → Small ys → Small (xs ++ ys)
 small-append [] ys hx hy = hy
@@ -37,27 +38,27 @@ all-split [] [] m n e = refl
 all-split [] (w ∷ ws) m n e = absurd (omega (arith, encode-pos maxVarint w (omega arith), simp length-append at (ap length e)))
 all-split (v ∷ vs) [] m n e = absurd (omega (arith, encode-pos maxVarint v (omega arith), simp length-append at (ap length e)))
 all-split (v ∷ vs) (w ∷ ws) m n e =
-    let s = encode-split maxVarint v w (encodeAll vs) (encodeAll ws) (omega arith) (m .0) (n .0) e in
+    let s = encode-split maxVarint v w (encodeAll vs) (encodeAll ws) (omega arith) (omega (arith, m .0)) (omega (arith, n .0)) e in
     ap₂ _∷_ (s .0) (all-split vs ws (m .1) (n .1) (s .1))
 
 -- the first of stored numbers is read, and the others stand after it
-pub next-number : (s : List ℕ) (at v : ℕ) (vs t : List ℕ) → v < 2 ^ 63 → drop at s ≡ encodeAll (v ∷ vs) ++ t
+pub next-number : (s : List ℕ) (at v : ℕ) (vs t : List ℕ) → v < varintLimit → drop at s ≡ encodeAll (v ∷ vs) ++ t
     → (readAt s at ≡ Value v (at + length (encode v))) × (drop (at + length (encode v)) s ≡ encodeAll vs ++ t)
 next-number s at v vs t h e =
     let e′ = e ∙ append-assoc (encode v) (encodeAll vs) t in
-    (reads maxVarint s at v (encodeAll vs ++ t) (omega arith) h e′, drop-past s at (encode v) (encodeAll vs ++ t) e′)
+    (reads maxVarint s at v (encodeAll vs ++ t) (omega arith) (omega arith) h e′, drop-past s at (encode v) (encodeAll vs ++ t) e′)
 
 -- ---- the numbers of a whole list
 
 abbrev pub listNumbers : ℕ → List Entry → List ℕ
 listNumbers before [] = []
-listNumbers before (e ∷ es) = (e .docid - before) ∷ (columnNumbers (e .columns) ++ (0 ∷ listNumbers (e .docid) es))
+listNumbers before (e ∷ es) = difference before (e .docid) ∷ (columnNumbers (e .columns) ++ (0 ∷ listNumbers (e .docid) es))
 
 -- entry by entry
 pub numbers-cons : (before : ℕ) (e : Entry) (es : List Entry)
     → listNumbers before (e ∷ es) ≡ entryNumbers before e ++ listNumbers (e .docid) es
 numbers-cons before e es =
-    ap (λ (l : List ℕ). (e .docid - before) ∷ l) (sym (append-assoc (columnNumbers (e .columns)) (0 ∷ []) (listNumbers (e .docid) es)))
+    ap (λ (l : List ℕ). difference before (e .docid) ∷ l) (sym (append-assoc (columnNumbers (e .columns)) (0 ∷ []) (listNumbers (e .docid) es)))
 
 pub list-bytes : (before : ℕ) (es : List Entry) → encodeFrom before es ≡ encodeAll (listNumbers before es)
 list-bytes before [] = refl
@@ -114,7 +115,7 @@ module _ (count : ℕ) (s : List ℕ) where
       let n : ℕ = i + length (encode v) in
       let p : 0 < length (encode v) = encode-pos maxVarint v (omega arith) in
       let room = drop-room s i (encode v) (encodeAll vs) e in
-      let r = check-again count s i q k v n f (omega arith) (reads maxVarint s i v (encodeAll vs) (omega arith) (m .0) e) (omega arith) in
+      let r = check-again count s i q k v n f (omega arith) (reads maxVarint s i v (encodeAll vs) (omega arith) (omega (arith, m .0)) (m .0) e) (omega arith) in
       r .2 ∙ run-numbers vs (r .0) n (checkStep count q v) (r .1) (m .1) (drop-past s i (encode v) (encodeAll vs) e)
 
 pub all-length : (us vs : List ℕ) → length (encodeAll (us ++ vs)) ≡ length (encodeAll us) + length (encodeAll vs)

@@ -11,6 +11,7 @@ use borrow.Author.Tests.{eq-eqb, ne-eqb}
 use Rattle.common.specs.Bytes.{part}
 use Rattle.common.proofs.Cases.{same-or}
 use Rattle.common.proofs.Lists.{drop-room}
+use Rattle.doclist.specs.Docid.{zeroKey}
 use Rattle.doclist.specs.Doclist.{Entry, Entries, entryBytes, encodeFrom, encodeList, entryPlaceFrom, entryPlace}
 use Rattle.doclist.proofs.Entries.{entry-good, lastDocid, encode-append, entry-pos}
 use Rattle.doclist.specs.declared.EntryAt.the-variants.{At, Absent, Refused}
@@ -81,21 +82,21 @@ placed at before (e ∷ es) docid start end q =
 
 -- ---- what stands there
 
-module _ {es : List Entry} {docid start end : ℕ} (p : EntryPlaced 0 0 es docid start end) where
-  pub placed-bytes : drop start (encodeList es) ≡ entryBytes (lastDocid 0 (p .passed)) (p .entry) ++ encodeFrom (p .entry .docid) (p .after)
+module _ {es : List Entry} {docid start end : ℕ} (p : EntryPlaced 0 zeroKey es docid start end) where
+  pub placed-bytes : drop start (encodeList es) ≡ entryBytes (lastDocid zeroKey (p .passed)) (p .entry) ++ encodeFrom (p .entry .docid) (p .after)
   placed-bytes =
-      ap (drop start) (ap encodeList (p .stands) ∙ encode-append 0 (p .passed) (p .entry ∷ p .after))
-      ∙ drop-at (encodeFrom 0 (p .passed)) (encodeFrom (lastDocid 0 (p .passed)) (p .entry ∷ p .after)) start (omega (arith, p .starts))
+      ap (drop start) (ap encodeList (p .stands) ∙ encode-append zeroKey (p .passed) (p .entry ∷ p .after))
+      ∙ drop-at (encodeFrom zeroKey (p .passed)) (encodeFrom (lastDocid zeroKey (p .passed)) (p .entry ∷ p .after)) start (omega (arith, p .starts))
 
-  pub placed-part : part (encodeList es) start end ≡ entryBytes (lastDocid 0 (p .passed)) (p .entry)
+  pub placed-part : part (encodeList es) start end ≡ entryBytes (lastDocid zeroKey (p .passed)) (p .entry)
   placed-part =
       ap (take (end - start)) placed-bytes
-      ∙ take-at (entryBytes (lastDocid 0 (p .passed)) (p .entry)) (encodeFrom (p .entry .docid) (p .after)) (end - start) (omega (arith, p .ends))
+      ∙ take-at (entryBytes (lastDocid zeroKey (p .passed)) (p .entry)) (encodeFrom (p .entry .docid) (p .after)) (end - start) (omega (arith, p .ends))
 
   pub placed-within : (start < end) × (end ≤ length (encodeList es))
   placed-within =
-      let n = entry-pos (lastDocid 0 (p .passed)) (p .entry) in
-      let room = drop-room (encodeList es) start (entryBytes (lastDocid 0 (p .passed)) (p .entry)) (encodeFrom (p .entry .docid) (p .after)) placed-bytes in
+      let n = entry-pos (lastDocid zeroKey (p .passed)) (p .entry) in
+      let room = drop-room (encodeList es) start (entryBytes (lastDocid zeroKey (p .passed)) (p .entry)) (encodeFrom (p .entry .docid) (p .after)) placed-bytes in
       (omega (arith, p .ends), omega (arith, p .ends))
 
 -- ---- no place
@@ -119,7 +120,7 @@ absent-back at before (x ∷ es) docid n =
 
 -- exactly where no entry has the docid
 pub place-absent : (es : List Entry) (docid : ℕ) → (entryPlace es docid ≡ Absent) ↔ ((e : Entry) → List·Memᴰ e es → e .docid ≡ docid → ⊥)
-place-absent es docid = (absent-there 0 0 es docid, absent-back 0 0 es docid)
+place-absent es docid = (absent-there 0 zeroKey es docid, absent-back 0 zeroKey es docid)
 
 -- ---- every entry of a well-formed list has its place
 

@@ -13,7 +13,8 @@ use Rattle.varint.specs.Varint.{readAt, onVarint}
 use Rattle.varint.specs.declared.Varint.{Varint}
 use Rattle.varint.specs.declared.Varint.the-variants.{Value, Refused}
 use Rattle.varint.proofs.Laws.{stored-at, next-after, next-within}
-use Rattle.doclist.specs.Doclist.{docidLimit, positionLimit}
+use Rattle.doclist.specs.Docid.{docidLimit}
+use Rattle.doclist.specs.Doclist.{positionLimit}
 use Rattle.doclist.specs.Checking.{positionState, checkStep, endedOf, checkFrom, checkOf}
 use Rattle.doclist.specs.Spots.{spotOf, announcedOf, spotAfter, Checking, Closes}
 use Rattle.doclist.specs.declared.State.{State}

@@ -1,5 +1,5 @@
 -- A step keeps the bounds of the state, and how checking goes on: a number at a time.
-use Prim.Native.Nat.{ℕ, zero, suc, _+_, _-_, _^_, _≤_, _<_}
+use Prim.Native.Nat.{ℕ, zero, suc, _+_, _-_, _≤_, _<_}
 use native.Mathlib.Omega.{arith}
 use mathlib.Core.Path.{_≡_, refl, _∙_}
 use mathlib.Core.List.{List}
@@ -7,15 +7,18 @@ use lib.ListN.{length}
 use lib.Dec.{ltb, leb, eqb}
 use borrow.Author.Tests.{lt-ltb, le-ltb, ltb-true}
 use Rattle.common.proofs.Cases.{pick-case}
-use Rattle.varint.specs.Varint.{readAt}
+use Rattle.varint.specs.Varint.{varintLimit, readAt}
 use Rattle.varint.specs.declared.Varint.the-variants.{Value, Refused}
 use Rattle.varint.proofs.Laws.{stored-at, next-after}
-use Rattle.doclist.specs.Doclist.{docidLimit, positionLimit}
+use Rattle.doclist.specs.Docid.{docidLimit}
+use Rattle.doclist.specs.Doclist.{positionLimit}
 use Rattle.doclist.specs.Checking.{Sane, positionState, checkStep, endedOf, checkFrom, checkOf}
-use Rattle.doclist.specs.Spots.{Checking}
+use Rattle.doclist.specs.Spots.{spotOf, Checking}
+use Rattle.doclist.specs.declared.Spot.the-variants as spot
 use Rattle.doclist.specs.declared.State.{State}
 use Rattle.doclist.specs.declared.State.the-variants.{Start, Between, Open, Name, Named, Broken}
 use Rattle.doclist.specs.declared.ListCheck.the-variants as list-check
+use Rattle.doclist.proofs.Docids.{key-limit}
 
 -- ---- a state keeps its bounds
 
@@ -25,8 +28,8 @@ position-sane d c b l v h =
     pick-case Sane (ltb (b + (v - 2)) l) _ _ (λ _. tt) λ _.
     pick-case Sane (ltb (b + (v - 2)) positionLimit) _ _ (λ e. (h, ltb-true _ _ e, omega arith)) λ _. tt
 
-pub sane-step : (count : ℕ) (q : State) (v : ℕ) → Sane q → v < 2 ^ 63 → Sane (checkStep count q v)
-sane-step count Start v s h = (h, omega arith, omega arith)
+pub sane-step : (count : ℕ) (q : State) (v : ℕ) → Sane q → v < varintLimit → Sane (checkStep count q v)
+sane-step count Start v s h = (key-limit v, omega arith, omega arith)
 sane-step count (Between d) v s h =
     pick-case Sane (eqb v 0) _ _ (λ _. tt) λ _.
     pick-case Sane (ltb v (docidLimit - d)) _ _ (λ e. let l = ltb-true v (docidLimit - d) e in (omega arith, omega arith, omega arith)) λ _. tt
@@ -36,6 +39,17 @@ sane-step count (Name d c) v s h =
     pick-case Sane (leb v c) _ _ (λ _. tt) λ _. pick-case Sane (ltb v count) _ _ (λ _. s) λ _. tt
 sane-step count (Named d c) v s h = position-sane d c 0 0 v s
 sane-step count Broken v s h = tt
+
+-- a position past the limit is refused, whatever may come
+pub position-large : (d c b l v : ℕ) → positionLimit ≤ b + (v - 2) → positionState d c b l v ≡ Broken
+position-large d c b l v h =
+    pick-case (λ q. q ≡ Broken) (ltb v 2) _ _ (λ _. refl) λ _.
+    pick-case (λ q. q ≡ Broken) (ltb (b + (v - 2)) l) _ _ (λ _. refl) λ _. simp (le-ltb (b + (v - 2)) positionLimit h)
+
+pub spot-large : (c b l v n : ℕ) → positionLimit ≤ b + (v - 2) → spotOf c b l v n ≡ spot.Refused
+spot-large c b l v n h =
+    pick-case (λ q. q ≡ spot.Refused) (ltb v 2) _ _ (λ _. refl) λ _.
+    pick-case (λ q. q ≡ spot.Refused) (ltb (b + (v - 2)) l) _ _ (λ _. refl) λ _. simp (le-ltb (b + (v - 2)) positionLimit h)
 
 -- ---- a turn of checking
 

@@ -4,7 +4,9 @@ use native.Mathlib.Omega.{arith}
 use mathlib.Core.Path.{_≡_, refl, sym, ap, ap₂, _∙_, subst}
 use mathlib.Core.List.{List, [], _∷_, _++_, append-assoc}
 use Rattle.common.proofs.Lists.{head-same, tail-same, no-element}
+use Rattle.doclist.specs.Docid.{docidLimit, zeroKey}
 use Rattle.doclist.specs.Doclist.{Column, Entry, positionLimit, Rising, NotEmpty, Columns, Entries, WellFormed, positionNumbers, announced, columnNumbers, encodeList}
+use Rattle.doclist.proofs.Docids.{difference-one}
 use Rattle.doclist.proofs.Numbers.{all-split, listNumbers, list-bytes}
 use Rattle.doclist.proofs.Law.{small-entries}
 
@@ -93,22 +95,21 @@ module _ (count : ℕ) where
 
   -- ---- entries
 
-  entries-split : (l b : ℕ) (es fs : List Entry) → b ≤ l → Entries l count es → Entries l count fs → listNumbers b es ≡ listNumbers b fs → es ≡ fs
+  entries-split : (l b : ℕ) (es fs : List Entry) → b < docidLimit → Entries l count es → Entries l count fs → listNumbers b es ≡ listNumbers b fs → es ≡ fs
   entries-split l b [] [] h he hf e = refl
   entries-split l b [] (f ∷ fs) h he hf e = no-element e
   entries-split l b (d ∷ es) [] h he hf e = no-element (sym e)
   entries-split l b (d ∷ es) (f ∷ fs) h he hf e =
-      let n = head-same e in
-      let m : d .docid ≡ f .docid = omega (arith, he .0, hf .0) in
+      let m : d .docid ≡ f .docid = difference-one b (d .docid) (f .docid) h (he .1) (hf .1) (head-same e) in
       let c = columns-split 0 (d .columns) (f .columns) _ _ (he .2) (hf .2) (tail-same e) in
-      let r = entries-split (suc (d .docid)) (d .docid) es fs (omega arith) (he .3) (subst (λ (j : ℕ). Entries (suc j) count fs) (sym m) (hf .3))
+      let r = entries-split (suc (d .docid)) (d .docid) es fs (he .1) (he .3) (subst (λ (j : ℕ). Entries (suc j) count fs) (sym m) (hf .3))
       (c .1 ∙ ap (λ (j : ℕ). listNumbers j fs) (sym m)) in
       ap₂ _∷_ (λ i. record { docid = m i; columns = c .0 i }) r
 
   pub list-unique : (es fs : List Entry) → WellFormed count es → WellFormed count fs → encodeList es ≡ encodeList fs → es ≡ fs
   list-unique es fs g h e =
-      entries-split 0 0 es fs (omega arith) (g .entries) (h .entries)
-      (all-split (listNumbers 0 es) (listNumbers 0 fs)
-      (small-entries count 0 0 es (g .few-columns) (g .entries))
-      (small-entries count 0 0 fs (h .few-columns) (h .entries))
-      (sym (list-bytes 0 es) ∙ e ∙ list-bytes 0 fs))
+      entries-split 0 zeroKey es fs (omega arith) (g .entries) (h .entries)
+      (all-split (listNumbers zeroKey es) (listNumbers zeroKey fs)
+      (small-entries count 0 zeroKey es (g .few-columns) (g .entries))
+      (small-entries count 0 zeroKey fs (h .few-columns) (h .entries))
+      (sym (list-bytes zeroKey es) ∙ e ∙ list-bytes zeroKey fs))

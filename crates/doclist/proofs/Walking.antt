@@ -7,11 +7,13 @@ use mathlib.Core.Path.{_≡_, refl, sym, ap, _∙_, subst}
 use mathlib.Core.List.{List, [], _∷_, _++_}
 use lib.ListN.{length}
 use borrow.Author.Tests.{lt-ltb, le-ltb, ne-eqb, lt-leb}
-use Rattle.doclist.specs.Doclist.{Column, Entry, docidLimit, positionLimit, Rising, NotEmpty, Columns, Entries, positionNumbers, announced, columnNumbers}
+use Rattle.doclist.specs.Docid.{docidLimit, zeroKey, difference}
+use Rattle.doclist.specs.Doclist.{Column, Entry, positionLimit, Rising, NotEmpty, Columns, Entries, positionNumbers, announced, columnNumbers}
 use Rattle.doclist.specs.Checking.{positionState, checkStep}
 use Rattle.doclist.specs.declared.State.{State}
 use Rattle.doclist.specs.declared.State.the-variants.{Start, Between, Open, Name, Named, Broken}
 use Rattle.doclist.specs.declared.ListCheck.the-variants.{Accepted}
+use Rattle.doclist.proofs.Docids.{bits-key, difference-later}
 use Rattle.doclist.proofs.Numbers.{run, listNumbers}
 
 -- ---- states on the way
@@ -116,33 +118,33 @@ module _ (count d : ℕ) where
 
 -- `q` is the state in which the first entry is read, or one after the docid `before`; a docid is at least `low` then
 pub data StateReady : State → ℕ → ℕ → Type 0 where
-  first : StateReady Start 0 0
+  first : StateReady Start zeroKey 0
   later : {d : ℕ} → StateReady (Between d) d (suc d)
 
 module _ (count : ℕ) where
-  pub ready-step : {q : State} {before low : ℕ} (d : ℕ) → StateReady q before low → low ≤ d → d < docidLimit → checkStep count q (d - before) ≡ Open d 0 0 0
-  ready-step d first hl hd = ap (λ (n : ℕ). Open n 0 0 0) (omega arith)
+  pub ready-step : {q : State} {before low : ℕ} (d : ℕ) → StateReady q before low → low ≤ d → d < docidLimit → checkStep count q (difference before d) ≡ Open d 0 0 0
+  ready-step d first hl hd = ap (λ (n : ℕ). Open n 0 0 0) (bits-key d hd)
   ready-step d (later {d = b}) hl hd =
-      simp (ne-eqb (d - b) 0 (omega arith), lt-ltb (d - b) (docidLimit - b) (omega arith)) (ap (λ (n : ℕ). Open n 0 0 0) (omega arith))
+      rw (difference-later b d (omega arith) hd) (simp (ne-eqb (d - b) 0 (omega arith), lt-ltb (d - b) (docidLimit - b) (omega arith)) (ap (λ (n : ℕ). Open n 0 0 0) (omega arith)))
 
   -- all numbers of an entry but its closing 0
   pub entry-stays : {q : State} {before low : ℕ} (e : Entry) → StateReady q before low → low ≤ e .docid → e .docid < docidLimit → Columns 0 count (e .columns)
-      → Stays count (e .docid) q ((e .docid - before) ∷ columnNumbers (e .columns))
+      → Stays count (e .docid) q (difference before (e .docid) ∷ columnNumbers (e .columns))
   entry-stays {q} {before} e r hl hd h =
-      stays-one count (e .docid) q (Open (e .docid) 0 0 0) (e .docid - before) (columnNumbers (e .columns)) (ready-step (e .docid) r hl hd) tt
+      stays-one count (e .docid) q (Open (e .docid) 0 0 0) (difference before (e .docid)) (columnNumbers (e .columns)) (ready-step (e .docid) r hl hd) tt
       (entry-leads count (e .docid) (e .columns) h)
 
   entry-run : {q : State} {before low : ℕ} (e : Entry) (es : List Entry) → StateReady q before low → Entries low count (e ∷ es)
       → run count q (listNumbers before (e ∷ es)) ≡ run count (Between (e .docid)) (listNumbers (e .docid) es)
   entry-run {q} {before} e es r h =
       let s = entry-stays e r (h .0) (h .1) (h .2) in
-      leads-run count q (Open (e .docid) (s .column) (s .base) (s .low)) ((e .docid - before) ∷ columnNumbers (e .columns)) (0 ∷ listNumbers (e .docid) es) (s .leads)
+      leads-run count q (Open (e .docid) (s .column) (s .base) (s .low)) (difference before (e .docid) ∷ columnNumbers (e .columns)) (0 ∷ listNumbers (e .docid) es) (s .leads)
 
   later-run : (d : ℕ) (es : List Entry) → Entries (suc d) count es → run count (Between d) (listNumbers d es) ≡ Accepted
   later-run d [] h = refl
   later-run d (e ∷ es) h = entry-run e es later h ∙ later-run (e .docid) es (h .3)
 
   -- well-formed content is accepted
-  pub accepts : (es : List Entry) → 0 < length es → Entries 0 count es → run count Start (listNumbers 0 es) ≡ Accepted
+  pub accepts : (es : List Entry) → 0 < length es → Entries 0 count es → run count Start (listNumbers zeroKey es) ≡ Accepted
   accepts [] n h = absurd (omega arith)
   accepts (e ∷ es) n h = entry-run e es first h ∙ later-run (e .docid) es (h .3)

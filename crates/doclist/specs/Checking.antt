@@ -8,7 +8,8 @@ use Rattle.common.specs.Pick.{pick}
 use Rattle.common.specs.Bytes.{within}
 use Rattle.common.specs.Bounds.{maxColumns}
 use Rattle.varint.specs.Varint.{readAt, onVarint}
-use Rattle.doclist.specs.Doclist.{docidLimit, positionLimit}
+use Rattle.doclist.specs.Docid.{docidLimit, keyOfBits}
+use Rattle.doclist.specs.Doclist.{positionLimit}
 use Rattle.doclist.specs.declared.State.{State}
 use Rattle.doclist.specs.declared.State.the-variants.{Start, Between, Open, Name, Named, Broken}
 use Rattle.doclist.specs.declared.ListCheck.{ListCheck}
@@ -42,7 +43,7 @@ nextColumnOf count d c v = pick (leb v c) Broken (pick (ltb v count) (Named d v)
 
 -- after one more number
 abbrev pub checkStep : ℕ → State → ℕ → State
-checkStep count Start v = Open v 0 0 0
+checkStep count Start v = Open (keyOfBits v) 0 0 0
 checkStep count (Between d) v = nextDocidOf d v
 checkStep count (Open d c b l) v = pick (eqb v 0) (Between d) (pick (eqb v 1) (Name d c) (positionState d c b l v))
 checkStep count (Name d c) v = nextColumnOf count d c v

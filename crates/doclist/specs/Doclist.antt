@@ -9,6 +9,7 @@ use lib.Dec.{eqb}
 use Rattle.common.specs.Pick.{pick}
 use Rattle.common.specs.Bounds.{maxColumns}
 use Rattle.varint.specs.Varint.{encode}
+use Rattle.doclist.specs.Docid.{docidLimit, zeroKey, difference}
 use Rattle.doclist.specs.declared.EntryAt.{EntryAt}
 use Rattle.doclist.specs.declared.EntryAt.the-variants.{At, Absent}
 
@@ -19,16 +20,12 @@ pub record Column : Type 0 where
   pub column : ℕ
   pub positions : List ℕ
 
--- a docid, and the columns that have the word; none for a deletion
+-- a docid, as its key, and the columns that have the word; none for a deletion
 pub record Entry : Type 0 where
   pub docid : ℕ
   pub columns : List Column
 
 -- ---- the rules
-
--- docids are 0 to 2^63 - 1
-abbrev pub docidLimit : ℕ
-docidLimit = 2 ^ 63
 
 -- positions are 0 to 2^31 - 1
 abbrev pub positionLimit : ℕ
@@ -84,9 +81,9 @@ abbrev pub columnNumbers : List Column → List ℕ
 columnNumbers [] = []
 columnNumbers (c ∷ cs) = announced (c .column) ++ (positionNumbers 0 (c .positions) ++ columnNumbers cs)
 
--- the difference to the docid before (to 0 for the first), the columns, and the number 0
+-- the difference to the docid before (for the first to the docid 0, which gives its 64 bits), the columns, and the number 0
 abbrev pub entryNumbers : ℕ → Entry → List ℕ
-entryNumbers before e = (e .docid - before) ∷ (columnNumbers (e .columns) ++ (0 ∷ []))
+entryNumbers before e = difference before (e .docid) ∷ (columnNumbers (e .columns) ++ (0 ∷ []))
 
 -- numbers, stored one after the other
 abbrev pub encodeAll : List ℕ → List ℕ
@@ -104,7 +101,7 @@ encodeFrom before (e ∷ es) = entryBytes before e ++ encodeFrom (e .docid) es
 
 -- a whole list
 abbrev pub encodeList : List Entry → List ℕ
-encodeList es = encodeFrom 0 es
+encodeList es = encodeFrom zeroKey es
 
 -- ---- where the entry of a docid stands: from its docid number to its closing 0
 
@@ -118,4 +115,4 @@ entryPlaceFrom at before (e ∷ es) docid =
 
 -- in a whole list
 abbrev pub entryPlace : List Entry → ℕ → EntryAt
-entryPlace es docid = entryPlaceFrom 0 0 es docid
+entryPlace es docid = entryPlaceFrom 0 zeroKey es docid

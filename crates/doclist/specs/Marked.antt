@@ -4,8 +4,10 @@
 use Prim.Native.Nat.{ℕ, _≤_}
 use mathlib.Core.Path.{_≡_}
 use mathlib.Core.List.{List, [], _∷_}
+use lib.IntN.{pos}
 use Rattle.common.specs.Marked.{Example}
 use Rattle.common.specs.Bounds.{maxColumns}
+use Rattle.doclist.specs.Docid.{keyOf}
 use Rattle.doclist.specs.Doclist.{Entry, encodeList}
 use Rattle.doclist.specs.Checking.{checkOf}
 use Rattle.doclist.specs.declared.ListCheck.the-variants.{Accepted, Refused}
@@ -20,11 +22,11 @@ NotListed bytes = (count : ℕ) → checkOf count bytes ≡ Refused
 
 -- docid 7, column 0, position 0
 abbrev pub once : Entry
-once = record { docid = 7; columns = record { column = 0; positions = 0 ∷ [] } ∷ [] }
+once = record { docid = keyOf (pos 7); columns = record { column = 0; positions = 0 ∷ [] } ∷ [] }
 
 -- a deletion in docid 7
 abbrev pub deletion : Entry
-deletion = record { docid = 7; columns = [] }
+deletion = record { docid = keyOf (pos 7); columns = [] }
 
 abbrev pub marked : List Example
 marked =

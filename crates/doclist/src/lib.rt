@@ -2,13 +2,15 @@
 //
 //     docid (later its difference)   for each column: [1, column]   position + 2, difference + 2, ..   0
 //
-// Column 0 is not announced. An entry with no column, `docid 0`, is a deletion.
+// Column 0 is not announced. An entry with no column, `docid 0`, is a deletion. A docid stands here as its key (module `keys`).
+pub mod keys;
+
 use varint::Varint;
 ghost use mathlib.Core.Path.{_≡_};
 ghost use mathlib.Core.Logic.{_↔_};
 ghost use mathlib.Core.List.{List};
-ghost use Prim.Native.Nat.{_^_, _<_};
-ghost use Rattle.doclist.specs.Doclist.{Entry, WellFormed, encodeList, entryPlace, docidLimit, positionLimit};
+ghost use Prim.Native.Nat.{_<_};
+ghost use Rattle.doclist.specs.Doclist.{Entry, WellFormed, encodeList, entryPlace, positionLimit};
 ghost use Rattle.doclist.specs.Spots.{spotOf, announcedOf, spotAfter, Closes};
 ghost use Rattle.doclist.specs.Checking.{Sane, positionState, nextDocidOf, nextColumnOf, checkStep, checkOf, notFoundOf, findOf};
 
@@ -20,9 +22,6 @@ const POS_COLUMN: u64 = 1;
 
 // What is added to a position, so that it is told from these two.
 const POS_BASE: u64 = 2;
-
-// A docid is below 2^63.
-pub const DOCID_LIMIT: u64 = 0x8000_0000_0000_0000;
 
 // A position is below 2^31.
 const POSITION_LIMIT: u64 = 0x8000_0000;
@@ -94,45 +93,43 @@ pub enum EntryAt {
 
 // The state after a position's number.
 fn position(docid: u64, column: u64, base: u64, low: u64, v: u64) -> State
-    requires { ⌜ (base < positionLimit) × (v < 2 ^ 63) ⌝ }
+    requires { ⌜ base < positionLimit ⌝ }
     ensures { λ r. ⌜ r ≡ positionState docid column base low v ⌝ }
 {
     if v < POS_BASE {
         return State::Broken;
     }
-    let p = base + (v - POS_BASE);
+    let more = v - POS_BASE;
+    if POSITION_LIMIT - base <= more {
+        return State::Broken;
+    }
+    let p = base + more;
     if p < low {
         return State::Broken;
     }
-    if p < POSITION_LIMIT {
-        State::Open {
-            docid,
-            column,
-            base: p,
-            low: p + 1,
-        }
-    } else {
-        State::Broken
+    State::Open {
+        docid,
+        column,
+        base: p,
+        low: p + 1,
     }
 }
 
 // The state after a docid's difference.
 fn next_docid(docid: u64, v: u64) -> State
-    requires { ⌜ docid < docidLimit ⌝ }
     ensures { λ r. ⌜ r ≡ nextDocidOf docid v ⌝ }
 {
     if v == 0 {
         return State::Broken;
     }
-    if v < DOCID_LIMIT - docid {
-        State::Open {
-            docid: docid + v,
-            column: 0,
-            base: 0,
-            low: 0,
-        }
-    } else {
-        State::Broken
+    if keys::MAX_KEY - docid < v {
+        return State::Broken;
+    }
+    State::Open {
+        docid: docid + v,
+        column: 0,
+        base: 0,
+        low: 0,
     }
 }
 
@@ -152,12 +149,12 @@ fn next_column(docid: u64, column: u64, v: u64, columns: u64) -> State
 
 // The state after one more number.
 fn step(q: State, v: u64, columns: u64) -> State
-    requires { ⌜ Sane q × (v < 2 ^ 63) ⌝ }
+    requires { ⌜ Sane q ⌝ }
     ensures { λ r. ⌜ r ≡ checkStep columns q v ⌝ }
 {
     match q {
         State::Start => State::Open {
-            docid: v,
+            docid: keys::key_of_bits(v),
             column: 0,
             base: 0,
             low: 0,
@@ -185,24 +182,24 @@ fn step(q: State, v: u64, columns: u64) -> State
 
 // The position that a number stands for; the number after it is at `next`.
 fn spot_at(column: u64, base: u64, low: u64, v: u64, next: usize) -> Spot
-    requires { ⌜ (base < positionLimit) × (v < 2 ^ 63) ⌝ }
+    requires { ⌜ base < positionLimit ⌝ }
     ensures { λ r. ⌜ r ≡ spotOf column base low v next ⌝ }
 {
     if v < POS_BASE {
         return Spot::Refused;
     }
-    let position = base + (v - POS_BASE);
+    let step = v - POS_BASE;
+    if POSITION_LIMIT - base <= step {
+        return Spot::Refused;
+    }
+    let position = base + step;
     if position < low {
         return Spot::Refused;
     }
-    if position < POSITION_LIMIT {
-        Spot::At {
-            column,
-            position,
-            next,
-        }
-    } else {
-        Spot::Refused
+    Spot::At {
+        column,
+        position,
+        next,
     }
 }
 
@@ -231,7 +228,7 @@ fn announced(s: &[u8], at: usize, column: u64, columns: u64) -> Spot
 
 // The position that comes next in an entry, where its next number is `v`, not 0.
 fn spot_after(s: &[u8], column: u64, base: u64, low: u64, v: u64, next: usize, columns: u64) -> Spot
-    requires { ⌜ (base < positionLimit) × (v < 2 ^ 63) ⌝ }
+    requires { ⌜ base < positionLimit ⌝ }
     ensures { λ r. ⌜ r ≡ spotAfter columns (now (s .entry)) column base low v next ⌝ }
 {
     if v == POS_COLUMN {
@@ -288,7 +285,7 @@ pub fn check(s: &[u8], columns: u64) -> ListCheck
     else {
         return ListCheck::Refused;
     };
-    let mut docid = first;
+    let mut docid = keys::key_of_bits(first);
     let mut i = columns_at;
     loop {
         let Closed::At(end) = close(s, i, columns) else {
@@ -303,7 +300,7 @@ pub fn check(s: &[u8], columns: u64) -> ListCheck
         if v == 0 {
             return ListCheck::Refused;
         }
-        if DOCID_LIMIT - docid <= v {
+        if keys::MAX_KEY - docid < v {
             return ListCheck::Refused;
         }
         docid += v;

@@ -12,7 +12,7 @@ use lib.Seq.{drop-append-seam}
 use Rattle.common.specs.Bytes.{part}
 use Rattle.common.proofs.Members.{member-some}
 use Rattle.common.specs.Bounds.{maxWord}
-use Rattle.varint.specs.Varint.{encode}
+use Rattle.varint.specs.Varint.{encode, maxVarint}
 use Rattle.varint.proofs.Laws.{encode-pos}
 use Rattle.doclist.specs.Doclist.{encodeList}
 use Rattle.leaf.specs.Leaf.{Term, shared, sized, termBytes, encodeTerms, encodeLeaf, LeafIs, ListIs, NoTerm}
@@ -167,7 +167,7 @@ no-word docid texts = (
   where
     pos : (ts : List Term) → 0 < length ts → 0 < length (leafOrNothing ts)
     pos [] h = h
-    pos (t ∷ ts) h = omega (arith, encode-pos 9 0 (omega arith), length-append (encode 0) (termBytes (t .word) (t .entries) ++ encodeTerms (t .word) ts))
+    pos (t ∷ ts) h = omega (arith, encode-pos maxVarint 0 (omega arith), length-append (encode 0) (termBytes (t .word) (t .entries) ++ encodeTerms (t .word) ts))
 
     none : (ws : List (List ℕ)) → ((w : List ℕ) → List·Memᴰ w ws → ⊥) → ws ≡ []
     none [] f = refl

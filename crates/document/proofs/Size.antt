@@ -1,4 +1,4 @@
--- A document's leaf is no longer than a leaf may be. Each word that stands in the document is charged 19 bytes and its
+-- A document's leaf is no longer than a leaf may be. Each word that stands in the document is charged 20 bytes and its
 -- length; what the leaf stores of a word is no more than what its occurrences are charged.
 use Prim.Native.Nat.{ℕ, zero, suc, _+_, _-_, _*_, _/_, _≤_, _<_}
 use native.Mathlib.Omega.{arith}
@@ -13,9 +13,10 @@ use Rattle.common.proofs.Cases.{split, bool-case, pick-case}
 use Rattle.common.proofs.Same.{same-true, same-refl}
 use Rattle.common.proofs.Members.{Each, Rise}
 use Rattle.common.proofs.Lists.{flatten-inside}
-use Rattle.varint.specs.Varint.{encodeIn, encode}
+use Rattle.varint.specs.Varint.{encodeIn, encode, maxVarint}
 use Rattle.varint.proofs.Laws.{encode-small, encode-big, encode-most}
 use Rattle.tokenizer.specs.Word.{wordsOf}
+use Rattle.doclist.specs.Docid.{bitsOf}
 use Rattle.doclist.specs.Doclist.{Column, positionNumbers, announced, columnNumbers, encodeAll, encodeList}
 use Rattle.doclist.proofs.Numbers.{all-length}
 use Rattle.leaf.specs.Leaf.{Term, Before, shared, sized, termBytes, encodeTerms}
@@ -29,25 +30,25 @@ use Rattle.document.proofs.Terms.{word-some, word-stands}
 -- ---- numbers
 
 encode-one : (v : ℕ) → v < 128 → length (encode v) ≡ 1
-encode-one v h = rw (encode-small 8 v h) refl
+encode-one v h = rw (encode-small 9 v h) refl
 
 encode-two : (v : ℕ) → v < 16384 → length (encode v) ≤ 2
 encode-two v h =
     split v 128
     (λ l. omega (arith, encode-one v l))
-    (λ l. rw (encode-big 8 v l) (omega (arith, ap length (encode-small 7 (v / 128) (omega arith)))))
+    (λ l. rw (encode-big 9 v l) (omega (arith, ap length (encode-small 8 (v / 128) (omega arith)))))
 
 encode-three : (v : ℕ) → v < 2097152 → length (encode v) ≤ 3
 encode-three v h =
     split v 128
     (λ l. omega (arith, encode-one v l))
-    (λ l. rw (encode-big 8 v l) (rest (v / 128) (omega arith)))
+    (λ l. rw (encode-big 9 v l) (rest (v / 128) (omega arith)))
   where
-    rest : (u : ℕ) → u < 16384 → suc (length (encodeIn 8 u)) ≤ 3
+    rest : (u : ℕ) → u < 16384 → suc (length (encodeIn 9 u)) ≤ 3
     rest u k =
         split u 128
-        (λ l. omega (arith, ap length (encode-small 7 u l)))
-        (λ l. omega (arith, ap length (encode-big 7 u l), ap length (encode-small 6 (u / 128) (omega arith))))
+        (λ l. omega (arith, ap length (encode-small 8 u l)))
+        (λ l. omega (arith, ap length (encode-big 8 u l), ap length (encode-small 7 (u / 128) (omega arith))))
 
 -- ---- the posting list of a word
 
@@ -114,17 +115,17 @@ column-bytes c w (t ∷ ts) h f =
 
 -- the docid, the columns and the closing 0
 list-bytes : (docid : ℕ) (w : List ℕ) (texts : List (List ℕ)) → length texts ≤ 16 → ((j : ℕ) → length (wordsOf (getD texts j [])) + 2 ≤ 16384)
-    → length (encodeList (documentTerm docid texts w .entries)) ≤ 10 + 4 * count w (allWords texts)
+    → length (encodeList (documentTerm docid texts w .entries)) ≤ 11 + 4 * count w (allWords texts)
 list-bytes docid w texts h f =
     omega (
       arith,
       column-bytes 0 w texts (omega arith) f,
-      length-append (encodeAll ((docid - 0) ∷ (columnNumbers (columnsFrom 0 w texts) ++ (0 ∷ [])))) [],
-      length-append (encode (docid - 0)) (encodeAll (columnNumbers (columnsFrom 0 w texts) ++ (0 ∷ []))),
+      length-append (encodeAll (bitsOf docid ∷ (columnNumbers (columnsFrom 0 w texts) ++ (0 ∷ [])))) [],
+      length-append (encode (bitsOf docid)) (encodeAll (columnNumbers (columnsFrom 0 w texts) ++ (0 ∷ []))),
       all-length (columnNumbers (columnsFrom 0 w texts)) (0 ∷ []),
       length-append (encode 0) [],
       encode-one 0 (omega arith),
-      encode-most 9 (docid - 0),
+      encode-most maxVarint (bitsOf docid),
     )
 
 -- ---- a term
@@ -136,8 +137,8 @@ sized-length s = length-append (encode (length s)) s
 abbrev stored : List ℕ → Term → List ℕ
 stored before t = encode (shared before (t .word)) ++ termBytes (drop (shared before (t .word)) (t .word)) (t .entries)
 
-stored-bytes : (before : List ℕ) (t : Term) (n : ℕ) → length (t .word) ≤ 64 → length (encodeList (t .entries)) ≤ 10 + 4 * n → n ≤ 100000
-    → length (stored before t) ≤ 15 + length (t .word) + 4 * n
+stored-bytes : (before : List ℕ) (t : Term) (n : ℕ) → length (t .word) ≤ 64 → length (encodeList (t .entries)) ≤ 11 + 4 * n → n ≤ 100000
+    → length (stored before t) ≤ 16 + length (t .word) + 4 * n
 stored-bytes before t n h l m =
     let p = shared before (t .word) in
     let s = shared-most before (t .word) in
@@ -157,14 +158,14 @@ stored-bytes before t n h l m =
 
 abbrev charge : List (List ℕ) → ℕ
 charge [] = 0
-charge (v ∷ vs) = (19 + length v) + charge vs
+charge (v ∷ vs) = (20 + length v) + charge vs
 
 -- a word's part of it
 abbrev weightPart : List ℕ → List (List ℕ) → ℕ
 weightPart w [] = 0
-weightPart w (v ∷ vs) = pick (same v w) (19 + length v) 0 + weightPart w vs
+weightPart w (v ∷ vs) = pick (same v w) (20 + length v) 0 + weightPart w vs
 
-charge-weight : (vs : List (List ℕ)) → ((w : List ℕ) → List·Memᴰ w vs → 0 < length w) → charge vs ≤ 10 * weight vs
+charge-weight : (vs : List (List ℕ)) → ((w : List ℕ) → List·Memᴰ w vs → 0 < length w) → charge vs ≤ 11 * weight vs
 charge-weight [] f = omega arith
 charge-weight (v ∷ vs) f = let h = charge-weight vs (λ w m. f w (List·Memᴰ·tail m)) in omega (arith, f v (List·Memᴰ·head refl))
 
@@ -172,11 +173,11 @@ part-least : (w : List ℕ) (vs : List (List ℕ)) → 4 * count w vs ≤ weight
 part-least w [] = omega arith
 part-least w (v ∷ vs) = go (same v w) (part-least w vs)
   where
-    go : (b : Bool) → 4 * count w vs ≤ weightPart w vs → 4 * (pick b 1 0 + count w vs) ≤ pick b (19 + length v) 0 + weightPart w vs
+    go : (b : Bool) → 4 * count w vs ≤ weightPart w vs → 4 * (pick b 1 0 + count w vs) ≤ pick b (20 + length v) 0 + weightPart w vs
     go true h = omega arith
     go false h = omega arith
 
-part-covers : (w : List ℕ) (vs : List (List ℕ)) → List·Memᴰ w vs → 15 + length w + 4 * count w vs ≤ weightPart w vs
+part-covers : (w : List ℕ) (vs : List (List ℕ)) → List·Memᴰ w vs → 16 + length w + 4 * count w vs ≤ weightPart w vs
 part-covers w [] m = absurd (List·Memᴰ·not-nil m)
 part-covers w (v ∷ vs) m =
     bool-case (same v w)
@@ -212,7 +213,7 @@ hits-one n v (w ∷ ws) r =
     (λ t. rw t (omega (arith, hits-none n v w ws (same-true v w t) (r .0))))
     (λ t. rw t (omega (arith, hits-one n v ws (r .1))))
 
-parts-cons : (ws : List (List ℕ)) (v : List ℕ) (vs : List (List ℕ)) → parts ws (v ∷ vs) ≡ hits (19 + length v) v ws + parts ws vs
+parts-cons : (ws : List (List ℕ)) (v : List ℕ) (vs : List (List ℕ)) → parts ws (v ∷ vs) ≡ hits (20 + length v) v ws + parts ws vs
 parts-cons [] v vs = refl
 parts-cons (w ∷ ws) v vs = let e = parts-cons ws v vs in omega arith
 
@@ -223,7 +224,7 @@ parts-nil (w ∷ ws) = omega (arith, parts-nil ws)
 -- rising words have no more than the whole charge
 parts-most : (ws vs : List (List ℕ)) → Rise Before ws → parts ws vs ≤ charge vs
 parts-most ws [] r = omega (arith, parts-nil ws)
-parts-most ws (v ∷ vs) r = omega (arith, parts-cons ws v vs, hits-one (19 + length v) v ws r, parts-most ws vs r)
+parts-most ws (v ∷ vs) r = omega (arith, parts-cons ws v vs, hits-one (20 + length v) v ws r, parts-most ws vs r)
 
 -- ---- the leaf
 

@@ -1,6 +1,6 @@
--- The leaf for one document (document 01, "Words", last paragraph). A document is a docid and the texts of its columns.
--- Its leaf has the document's words, rising, each once; a word's posting list has one entry, for the docid, with the
--- columns that have the word and its positions there. A document without words gives 0 bytes, which is no leaf.
+-- The leaf for one document (document 01, "Words", last paragraph). A document is a docid and the texts of its columns. Its leaf
+-- has the document's words, rising, each once; a word's posting list has one entry, for the docid, with the columns that have the
+-- word and its positions there. A document without words gives 0 bytes, which is no leaf. A docid stands as its key.
 use Prim.Native.Nat.{ℕ, suc, _≤_, _<_}
 use mathlib.Core.Path.{_≡_}
 use mathlib.Core.Logic.{_↔_}
@@ -11,7 +11,8 @@ use Rattle.common.specs.Pick.{pick}
 use Rattle.common.specs.Bytes.{same}
 use Rattle.common.specs.Bounds.{maxWord, maxColumns}
 use Rattle.tokenizer.specs.Word.{wordsOf}
-use Rattle.doclist.specs.Doclist.{Column, Entry, docidLimit}
+use Rattle.doclist.specs.Docid.{docidLimit}
+use Rattle.doclist.specs.Doclist.{Column, Entry}
 use Rattle.leaf.specs.Leaf.{Term, encodeLeaf, isBefore}
 
 -- ---- the words of a document

@@ -6,7 +6,8 @@ use mathlib.Core.Logic.{_↔_, ⊎-elim}
 use mathlib.Core.List.{List, [], _∷_, _++_, List·Memᴰ, List·Memᴰ·head, List·Memᴰ·append-cases, List·Memᴰ·eq-of-singleton, Memᴰ·append-left, Memᴰ·append-right}
 use lib.ListN.{length}
 use Rattle.common.proofs.Cases.{split}
-use Rattle.doclist.specs.Doclist.{Rising, docidLimit}
+use Rattle.doclist.specs.Docid.{docidLimit}
+use Rattle.doclist.specs.Doclist.{Rising}
 use Rattle.doclist.proofs.Content.{rising-low}
 use Rattle.meaning.specs.Listing.{Lists}
 

@@ -1,30 +1,29 @@
 -- How the list grows from row to row. Between the docids of two rows there is no row, and where there is no row no word of
 -- the query stands, so nothing is satisfied there.
-use Prim.Native.Nat.{ℕ, zero, suc, _+_, _≤_, _<_}
+use Prim.Native.Nat.{ℕ, zero, suc, _+_, _^_, _≤_, _<_}
 use native.Mathlib.Omega.{arith}
 use mathlib.Core.Path.{_≡_, refl, sym, _∙_, subst}
-use mathlib.Core.Logic.{⊎-elim}
-use mathlib.Core.Bool.{true, false}
+use mathlib.Core.Logic.{_↔_, ⊎-elim}
+use mathlib.Core.Bool.{Bool, true, false}
 use mathlib.Core.List.{List, [], _∷_, _++_, List·Memᴰ, List·Memᴰ·not-nil, List·Memᴰ·cases-cons, List·Memᴰ·append-cases}
 use lib.ListN.{length}
 use Rattle.common.proofs.Cases.{false-not-true}
-use Rattle.doclist.specs.Doclist.{Rising, docidLimit}
+use Rattle.doclist.proofs.Content.{rising-low}
 use Rattle.lexer.specs.Token.{QueryWord, Tie, begins, continues, Node, phraseNodes}
 use Rattle.query.specs.Tree.{Tree, leaf, joined, FilledTree, linkNodes, treeNodes}
 use Rattle.meaning.specs.Satisfies.{Live, StandsAt, Satisfies}
-use Rattle.meaning.specs.Listing.{Lists}
 use Rattle.meaning.proofs.Some.{firstPhrase, holds-some}
 use Rattle.row.specs.Row.{bodiesSize}
 use Rattle.chain.specs.Chains.{nodeWord, Agrees, maxCandidates}
-use Rattle.cursors.specs.Groups.{Group, hitsAt, From, GroupsBegin, NextIs}
+use Rattle.cursors.specs.Groups.{Group, hitsAt, From, NextIs, rowAt}
 use Rattle.cursors.specs.Arrays.{CursorsAre, MinimaAre}
 use Rattle.cursors.specs.declared.Next.{Next}
-use Rattle.cursors.specs.declared.Next.the-variants.{Docid, End}
 use Rattle.cursors.proofs.Each.{ordered}
-use Rattle.cursors.proofs.Moving.{hits-none, hits-end}
-use Rattle.engine.specs.Rows.{RowAgrees, RowEvaluated}
-use Rattle.engine.specs.declared.Evaluated.{Evaluated}
-use Rattle.engine.proofs.Below.{ListsBelow, lists-none, lists-skip, lists-more, lists-all}
+use Rattle.cursors.proofs.Moving.{hits-none}
+use Rattle.cursors.proofs.Few.{few-rows}
+use Rattle.engine.specs.Rows.{maxCursors, RowAgrees, RowLeft}
+use Rattle.engine.proofs.Below.{ListsBelow, lists-none, lists-skip, lists-more}
+use Rattle.engine.proofs.Reaching.{next-begins}
 
 -- ---- the first words of a tree's chains are among its words
 
@@ -89,7 +88,7 @@ pub record Progress (leaves docids bodies lasts masks follows : List ℕ) (n : �
   pub next-is : NextIs groups next
   pub since : ℕ
   pub ahead : from ≤ since
-  pub reached : (d : ℕ) → next ≡ Docid d → since ≤ d
+  pub reached : since ≤ rowAt next
   pub same : (d : ℕ) → since ≤ d → hitsAt d groups ≡ hitsAt d start
   pub lists : ListsBelow (λ d. Satisfies live d tree) since listed
 
@@ -104,40 +103,30 @@ module _ {leaves lasts masks follows : List ℕ} {n : ℕ} {tree : Tree} {live :
         next-is = e;
         since = 0;
         ahead = omega arith;
-        reached = λ d h. omega arith;
+        reached = omega arith;
         same = λ d h. refl;
         lists = lists-none (λ d. Satisfies live d tree);
       }
 
   module _ (worded : FilledTree tree) (tells : (d : ℕ) → RowAgrees (treeNodes tree) live start d) {docids bodies mins : List ℕ} {next : Next} {from : ℕ} {listed : List ℕ}
       (p : Progress leaves docids bodies lasts masks follows n mins tree live start next from listed) where
-    -- where no row is left, all docids are listed
-    pub progress-end : next ≡ End → Rising 0 docidLimit listed → Lists (λ d. Satisfies live d tree) listed
-    progress-end e r =
-        let none = subst (NextIs (p .groups)) e (p .next-is) in
-        let b : ℕ = p .since + docidLimit in
-        lists-all (λ d. Satisfies live d tree) b listed (omega arith) r
-        (lists-skip (λ d. Satisfies live d tree) (p .since) b listed (omega arith)
-        (λ d k l s. no-row tree live start d worded (tells d) (sym (p .same d k) ∙ hits-end d (p .groups) none) s)
-        (p .lists))
+    -- fewer docids are listed than can be counted: each has a row
+    pub progress-few : {docids₀ bodies₀ : List ℕ} → CursorsAre leaves docids₀ bodies₀ lasts masks follows n start → n ≤ maxCursors → length listed < 2 ^ 32
+    progress-few c h =
+        few-rows start c h (p .since) listed (p .lists .rising)
+        (λ d m none. let l = rising-low 0 (p .since) listed d (p .lists .rising) m in no-row tree live start d worded (tells d) none (p .lists .exact d (l .1) .0 m))
 
     -- the row at the next docid
-    module _ (d : ℕ) (e : next ≡ Docid d) where
-      next-here : From d (p .groups) × GroupsBegin d (p .groups) × (d < docidLimit)
-      next-here = subst (NextIs (p .groups)) e (p .next-is)
-
+    module _ (d : ℕ) (e : rowAt next ≡ d) where
       pub next-later : from ≤ d
-      next-later = omega (arith, p .ahead, p .reached d e)
-
-      pub next-limit : d < docidLimit
-      next-limit = next-here .2
+      next-later = omega (arith, p .ahead, p .reached)
 
       pub next-from : From d (p .groups)
-      next-from = next-here .0
+      next-from = subst (λ k. From k (p .groups)) e (next-begins (p .groups) next (p .next-is))
 
       pub next-tells : (k : ℕ) → d ≤ k → RowAgrees (treeNodes tree) live (p .groups) k
       next-tells k h =
-          let s = sym (p .same k (omega (arith, p .reached d e))) in
+          let s = sym (p .same k (omega (arith, p .reached))) in
           record {
             agrees = subst (Agrees (StandsAt live k) (treeNodes tree)) s (tells k .agrees);
             fits = subst (λ hits. bodiesSize hits ≤ maxCandidates) s (tells k .fits);
@@ -146,34 +135,35 @@ module _ {leaves lasts masks follows : List ℕ} {n : ℕ} {tree : Tree} {live :
       -- no docid from `since` up to it is listed
       nothing-between : ListsBelow (λ k. Satisfies live k tree) d listed
       nothing-between =
-          lists-skip (λ k. Satisfies live k tree) (p .since) d listed (p .reached d e)
+          lists-skip (λ k. Satisfies live k tree) (p .since) d listed (omega (arith, p .reached))
           (λ k l m s. no-row tree live start k worded (tells k) (sym (p .same k l) ∙ hits-none d k (p .groups) (ordered (p .cursors-are)) next-from m) s)
           (p .lists)
 
-      -- the cursors went on
-      module _ {docids₁ bodies₁ mins₁ : List ℕ} {row : Evaluated} (j : RowEvaluated leaves docids₁ bodies₁ lasts masks follows n mins₁ d tree live (p .groups) row) where
-        goes-on : (more : List ℕ) → ListsBelow (λ k. Satisfies live k tree) (d + 1) more → Progress leaves docids₁ bodies₁ lasts masks follows n mins₁ tree live start (row .next) (d + 1) more
-        goes-on more l =
-            record {
-              groups = j .left;
-              cursors-are = j .cursors-are;
-              minima = j .minima;
-              next-is = j .next-is;
-              since = j .since;
-              ahead = omega (arith, j .after);
-              reached = j .reached;
-              same = λ k h. j .same k h ∙ p .same k (omega (arith, p .reached d e, j .after));
-              lists = lists-skip (λ k. Satisfies live k tree) (d + 1) (j .since) more (omega (arith, j .after)) (λ k h m. j .between k (omega arith) m) l;
-            }
+      -- the list up to this row and with it
+      module _ (holds : Bool) (exact : (holds ≡ true) ↔ Satisfies live d tree) where
+        pub lists-yes : holds ≡ true → ListsBelow (λ k. Satisfies live k tree) (d + 1) (listed ++ d ∷ [])
+        lists-yes h = lists-more (λ k. Satisfies live k tree) d listed (exact .0 h) nothing-between
 
-        pub progress-yes : row .holds ≡ true → Progress leaves docids₁ bodies₁ lasts masks follows n mins₁ tree live start (row .next) (d + 1) (listed ++ d ∷ [])
-        progress-yes h = goes-on (listed ++ d ∷ []) (lists-more (λ k. Satisfies live k tree) d listed (j .exact .0 h) nothing-between)
-
-        pub progress-no : row .holds ≡ false → Progress leaves docids₁ bodies₁ lasts masks follows n mins₁ tree live start (row .next) (d + 1) listed
-        progress-no h =
-            goes-on listed
-            (lists-skip (λ k. Satisfies live k tree) d (d + 1) listed (omega arith)
+        pub lists-no : holds ≡ false → ListsBelow (λ k. Satisfies live k tree) (d + 1) listed
+        lists-no h =
+            lists-skip (λ k. Satisfies live k tree) d (d + 1) listed (omega arith)
             (λ k l m s.
             let e : k ≡ d = omega arith in
-            false-not-true (sym h ∙ j .exact .1 (subst (λ k. Satisfies live k tree) e s)))
-            nothing-between)
+            false-not-true (sym h ∙ exact .1 (subst (λ k. Satisfies live k tree) e s)))
+            nothing-between
+
+      -- the cursors went on
+      pub goes-on : {docids₁ bodies₁ mins₁ : List ℕ} {onward : Next} → RowLeft leaves docids₁ bodies₁ lasts masks follows n mins₁ d tree live (p .groups) onward
+          → (more : List ℕ) → ListsBelow (λ k. Satisfies live k tree) (d + 1) more → Progress leaves docids₁ bodies₁ lasts masks follows n mins₁ tree live start onward (d + 1) more
+      goes-on j more l =
+          record {
+            groups = j .left;
+            cursors-are = j .cursors-are;
+            minima = j .minima;
+            next-is = j .next-is;
+            since = j .since;
+            ahead = omega (arith, j .after);
+            reached = j .reached;
+            same = λ k h. j .same k h ∙ p .same k (omega (arith, p .reached, j .after));
+            lists = lists-skip (λ k. Satisfies live k tree) (d + 1) (j .since) more (omega (arith, j .after)) (λ k h m. j .between k (omega arith) m) l;
+          }

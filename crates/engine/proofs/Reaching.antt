@@ -8,9 +8,9 @@ use borrow.Author.Tests.{eq-eqb}
 use Rattle.doclist.specs.Doclist.{Entry}
 use Rattle.meaning.specs.Index.{MaybeEntry, nothing, entry, entryFor, orElse}
 use Rattle.row.specs.Row.{Hit}
-use Rattle.cursors.specs.Groups.{Group, firstFor, hitOf, hitsAt, EveryList, EveryGroup, BeginsFrom, From, GroupsBegin, NextIs}
+use Rattle.cursors.specs.Groups.{Group, firstFor, hitOf, hitsAt, EveryList, EveryGroup, BeginsFrom, From, GroupsBegin, lastKey, NextIs, rowAt}
 use Rattle.cursors.specs.declared.Next.{Next}
-use Rattle.cursors.specs.declared.Next.the-variants.{Docid}
+use Rattle.cursors.specs.declared.Next.the-variants.{Docid, Last}
 
 -- ---- not before any that was reached
 
@@ -29,8 +29,14 @@ begins-from from d gs f b =
     let e = b .same in
     omega arith
 
-pub next-from : (from : ℕ) (gs : List Group) (next : Next) → From from gs → NextIs gs next → (d : ℕ) → next ≡ Docid d → from ≤ d
-next-from from gs next f n d e = begins-from from d gs f (subst (NextIs gs) e n .1)
+pub next-from : (from : ℕ) (gs : List Group) (next : Next) → from ≤ lastKey → From from gs → NextIs gs next → from ≤ rowAt next
+next-from from gs (Docid d) l f n = begins-from from d gs f (n .1)
+next-from from gs Last l f n = l
+
+-- no list begins before it
+pub next-begins : (gs : List Group) (next : Next) → NextIs gs next → From (rowAt next) gs
+next-begins gs (Docid d) n = n .0
+next-begins gs Last n = n
 
 -- ---- it has a row
 

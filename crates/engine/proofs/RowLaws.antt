@@ -2,26 +2,23 @@
 use Prim.Native.Nat.{ℕ, _+_, _≤_, _<_}
 use native.Mathlib.Numerals.{add-one}
 use native.Mathlib.Omega.{arith}
-use mathlib.Core.Path.{_≡_, _∙_, subst}
-use mathlib.Core.Logic.{_↔_}
-use mathlib.Core.Bool.{Bool, true}
+use mathlib.Core.Path.{_∙_, subst}
+use mathlib.Core.Bool.{Bool}
 use mathlib.Core.List.{List}
-use lib.ListN.{length}
 use Rattle.common.proofs.Cases.{split}
-use Rattle.doclist.specs.Doclist.{docidLimit}
 use Rattle.query.specs.declared.Query.{Query}
 use Rattle.query.specs.Tree.{Tree}
 use Rattle.meaning.specs.Satisfies.{Live, Satisfies}
-use Rattle.cursors.specs.Groups.{Group, hitsAt, moved, From, NextIs}
+use Rattle.cursors.specs.Groups.{Group, hitsAt, moved, From, lastKey, NextIs, rowAt}
 use Rattle.cursors.specs.Arrays.{CursorsAre, MinimaAre, RowTaken}
 use Rattle.cursors.specs.Frames.{Advances}
 use Rattle.cursors.specs.declared.Taken.{Taken}
 use Rattle.cursors.specs.declared.Next.{Next}
-use Rattle.cursors.specs.declared.Next.the-variants.{Docid}
+use Rattle.cursors.specs.declared.Next.the-variants.{Docid, Last}
 use Rattle.cursors.proofs.Each.{ordered}
 use Rattle.cursors.proofs.Moving.{hits-moved, from-moved, hits-none}
 use Rattle.evaluate.specs.Needs.{Needed}
-use Rattle.engine.specs.Rows.{Lacking, RowDecided, OneCursor, WentOn, Ready, RowEvaluated}
+use Rattle.engine.specs.Rows.{Lacking, RowDecided, OneCursor, WentOn, Ready, RowLeft, RowEvaluated}
 use Rattle.engine.proofs.Lacking.{lacking-not}
 use Rattle.engine.proofs.Reaching.{begins-hits}
 
@@ -54,14 +51,15 @@ module _ {query : Query} {leaves docids bodies lasts masks follows : List ℕ} {
   later = rw add-one (from-moved docid groups (ordered (ready .cursors-are)) (ready .from))
 
   -- the next docid is after this one: the rows up to it are gone
-  behind : (d : ℕ) → next ≡ Docid d → docid < d
-  behind d e =
-      split d (docid + 1)
-      (λ h.
-      absurd
-      (begins-hits d (on .left) (subst (NextIs (on .left)) e (on .next-is) .1)
-      (on .same d (on .reached d e) ∙ hits-none (docid + 1) d (moved docid groups) (ordered (row .cursors-are)) later h)))
-      (λ h. omega arith)
+  behind : docid < lastKey → docid < rowAt next
+  behind l = go next (on .next-is) (on .reached)
+    where
+      go : (r : Next) → NextIs (on .left) r → on .since ≤ rowAt r → docid < rowAt r
+      go (Docid d) n k =
+          split d (docid + 1)
+          (λ h. absurd (begins-hits d (on .left) (n .1) (on .same d k ∙ hits-none (docid + 1) d (moved docid groups) (ordered (row .cursors-are)) later h)))
+          (λ h. omega arith)
+      go Last n k = l
 
   -- rows after this one that lack a word don't satisfy the query
   passed : (d : ℕ) → docid < d → d < on .since → Satisfies live d tree → ⊥
@@ -69,12 +67,10 @@ module _ {query : Query} {leaves docids bodies lasts masks follows : List ℕ} {
       lacking-not needs tree live d (ready .compiled) (ready .tells d (omega arith) .agrees)
       (subst (Lacking needed) (hits-moved docid d (λ e. absurd (omega arith)) groups) (on .lacking d l))
 
-  evaluated-since : {holds : Bool} → (holds ≡ true) ↔ Satisfies live docid tree → (since : ℕ) → docid < since → on .since ≤ since → ((d : ℕ) → next ≡ Docid d → since ≤ d)
-      → ((d : ℕ) → docid < d → d < since → d < on .since)
-      → RowEvaluated leaves docids₂ bodies₂ lasts masks follows n mins₂ docid tree live groups (record { holds = holds; next = next })
-  evaluated-since exact since after more reached up =
+  left-since : (since : ℕ) → docid < since → on .since ≤ since → since ≤ rowAt next → ((d : ℕ) → docid < d → d < since → d < on .since)
+      → RowLeft leaves docids₂ bodies₂ lasts masks follows n mins₂ docid tree live groups next
+  left-since since after more reached up =
       record {
-        exact = exact;
         left = on .left;
         cursors-are = on .cursors-are;
         minima = on .minima;
@@ -91,6 +87,10 @@ module _ {query : Query} {leaves docids bodies lasts masks follows : List ℕ} {
   row-evaluated decided =
       let tells = ready .tells docid (omega arith) in
       let exact = decided tree live docid (hitsAt docid groups) (ready .compiled) (record { row = row .row; count-is = row .count; size = tells .fits }) (tells .agrees) (ready .marks-room) in
-      split docid (on .since)
-      (λ h. evaluated-since exact (on .since) h (omega arith) (on .reached) (λ d k l. l))
-      (λ h. evaluated-since exact (docid + 1) (omega arith) (omega arith) (λ d e. let b = behind d e in omega arith) (λ d k l. absurd (omega arith)))
+      record {
+        exact = exact;
+        on = λ l.
+            split docid (on .since)
+            (λ h. left-since (on .since) h (omega arith) (on .reached) (λ d k l. l))
+            (λ h. left-since (docid + 1) (omega arith) (omega arith) (let b = behind l in omega arith) (λ d k l. absurd (omega arith)));
+      }

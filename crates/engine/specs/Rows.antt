@@ -9,7 +9,8 @@ use mathlib.Core.List.{List, List·Memᴰ}
 use lib.IntN.{ℤ}
 use lib.ListN.{length, getD}
 use lib.Bits.{bitAnd}
-use Rattle.doclist.specs.Doclist.{Rising, docidLimit}
+use Rattle.doclist.specs.Docid.{docidLimit}
+use Rattle.doclist.specs.Doclist.{Rising}
 use Rattle.lexer.specs.Token.{Node}
 use Rattle.query.specs.declared.Query.{Query}
 use Rattle.query.specs.Tree.{Tree, treeNodes}
@@ -17,10 +18,9 @@ use Rattle.meaning.specs.Satisfies.{Live, StandsAt, Satisfies}
 use Rattle.meaning.specs.Listing.{Lists}
 use Rattle.row.specs.Row.{Hit, bodiesSize}
 use Rattle.chain.specs.Chains.{maxCandidates, Agrees, MarkRoom}
-use Rattle.cursors.specs.Groups.{Group, hitsAt, From, NextIs}
+use Rattle.cursors.specs.Groups.{Group, hitsAt, From, lastKey, NextIs, rowAt}
 use Rattle.cursors.specs.Arrays.{CursorsAre, MinimaAre}
 use Rattle.cursors.specs.declared.Next.{Next}
-use Rattle.cursors.specs.declared.Next.the-variants.{Docid}
 use Rattle.cursors.specs.declared.Taken.{Taken}
 use Rattle.evaluate.specs.Evaluate.{RowGiven}
 use Rattle.engine.specs.Run.{IsCompiled, fitted}
@@ -70,7 +70,7 @@ pub record WentOn (leaves docids bodies lasts masks follows : List ℕ) (n : ℕ
   pub minima : MinimaAre docids n mins
   pub next-is : NextIs left next
   pub since : ℕ
-  pub reached : (d : ℕ) → next ≡ Docid d → since ≤ d
+  pub reached : since ≤ rowAt next
   pub same : (d : ℕ) → since ≤ d → hitsAt d left ≡ hitsAt d groups
   pub lacking : (d : ℕ) → d < since → Lacking needed (hitsAt d groups)
 
@@ -88,19 +88,22 @@ pub record Ready (query : Query) (leaves docids bodies lasts masks follows : Lis
   pub compiled : IsCompiled query tree
   pub tells : (d : ℕ) → docid ≤ d → RowAgrees (treeNodes tree) live groups d
 
--- the row was evaluated, and the cursors went on: from the docid `since` on the rows are as they were, and none before it
--- satisfies the query
-pub record RowEvaluated (leaves docids bodies lasts masks follows : List ℕ) (n : ℕ) (mins : List ℕ) (docid : ℕ) (tree : Tree) (live : Live) (groups : List Group) (r : Evaluated) : Type 0 where
-  pub exact : (r .holds ≡ true) ↔ Satisfies live docid tree
+-- the cursors went on after a row: from the docid `since` on the rows are as they were, and none before it satisfies the query
+pub record RowLeft (leaves docids bodies lasts masks follows : List ℕ) (n : ℕ) (mins : List ℕ) (docid : ℕ) (tree : Tree) (live : Live) (groups : List Group) (next : Next) : Type 0 where
   pub left : List Group
   pub cursors-are : CursorsAre leaves docids bodies lasts masks follows n left
   pub minima : MinimaAre docids n mins
-  pub next-is : NextIs left (r .next)
+  pub next-is : NextIs left next
   pub since : ℕ
   pub after : docid < since
-  pub reached : (d : ℕ) → r .next ≡ Docid d → since ≤ d
+  pub reached : since ≤ rowAt next
   pub same : (d : ℕ) → since ≤ d → hitsAt d left ≡ hitsAt d groups
   pub between : (d : ℕ) → docid < d → d < since → Satisfies live d tree → ⊥
+
+-- the row was evaluated, and the cursors went on, but after the last one
+pub record RowEvaluated (leaves docids bodies lasts masks follows : List ℕ) (n : ℕ) (mins : List ℕ) (docid : ℕ) (tree : Tree) (live : Live) (groups : List Group) (r : Evaluated) : Type 0 where
+  pub exact : (r .holds ≡ true) ↔ Satisfies live docid tree
+  pub on : docid < lastKey → RowLeft leaves docids bodies lasts masks follows n mins docid tree live groups (r .next)
 
 -- ---- all rows
 

@@ -6,11 +6,12 @@ use mathlib.Core.Path.{_≡_}
 use mathlib.Core.List.{List, _++_, map}
 use lib.IntN.{ℤ, pos}
 use lib.ListN.{length, take, replicate}
-use Rattle.doclist.specs.Doclist.{Rising, docidLimit}
+use Rattle.doclist.specs.Docid.{docidLimit, docidOf}
+use Rattle.doclist.specs.Doclist.{Rising}
 use Rattle.leaf.specs.Leaf.{Term}
 use Rattle.query.specs.declared.Query.{Query}
 use Rattle.query.specs.Tree.{Tree, compile}
-use Rattle.meaning.specs.Listing.{Answers, signedDocid}
+use Rattle.meaning.specs.Listing.{Answers}
 use Rattle.opening.specs.Opening.{LeavesAre}
 use Rattle.evaluate.specs.Evaluate.{Fit}
 
@@ -25,7 +26,7 @@ pub record IsCompiled (query : Query) (tree : Tree) : Type 0 where
 
 -- a room of `n` numbers: the docids that fit, then zeros
 abbrev pub fitted : ℕ → List ℕ → List ℤ
-fitted n docids = map signedDocid (take n docids) ++ replicate (n - length docids) (pos 0)
+fitted n docids = map docidOf (take n docids) ++ replicate (n - length docids) (pos 0)
 
 -- a run with a room of `n` numbers answers `r` and leaves `room`
 pub record Ran (query : Query) (leaves ends : List ℕ) (n r : ℕ) (room : List ℤ) : Type 0 where

@@ -2,6 +2,7 @@
 // docids of the rows that satisfy the query go to the result room.
 use cursors::Next;
 use cursors::Taken;
+use doclist::keys::MAX_KEY;
 ghost use mathlib.Core.Path.{_≡_};
 ghost use mathlib.Core.Bool.{true};
 ghost use mathlib.Core.List.{List};
@@ -9,12 +10,12 @@ ghost use Prim.Native.Nat.{ℕ, _+_, _<_};
 ghost use lib.ListN.{length, set};
 ghost use lib.Bits.{bitAnd};
 ghost use Rattle.common.specs.Pick.{pick};
-ghost use Rattle.doclist.specs.Doclist.{docidLimit};
-ghost use Rattle.meaning.specs.Listing.{signedDocid, zeros};
+ghost use Rattle.doclist.specs.Docid.{docidOf};
+ghost use Rattle.meaning.specs.Listing.{zeros};
 ghost use Rattle.meaning.specs.Satisfies.{Live};
 ghost use Rattle.query.specs.Tree.{Tree};
 ghost use Rattle.row.specs.Row.{Hit, RowIs};
-ghost use Rattle.cursors.specs.Groups.{Group, NextIs};
+ghost use Rattle.cursors.specs.Groups.{Group, lastKey, NextIs, rowAt};
 ghost use Rattle.cursors.specs.Arrays.{CursorsAre, MinimaAre};
 ghost use Rattle.evaluate.specs.Needs.{Needed};
 ghost use Rattle.engine.specs.Run.{Ran};
@@ -25,6 +26,9 @@ const MAX_CURSORS: usize = 10922;
 
 // They stand in blocks of 16.
 const MAX_BLOCKS: usize = 683;
+
+// No docid is noted after so many; there are fewer entries in the leaves.
+const MAX_COUNT: usize = 0xffff_ffff_ffff_ffff;
 
 // Every place of the room becomes 0.
 pub fn clear(room: &mut [i64])
@@ -39,18 +43,17 @@ pub fn clear(room: &mut [i64])
 
 // The docid goes to the place, where the room has that place.
 fn put_docid(room: &mut [i64], at: usize, docid: u64)
-    requires { ⌜ docid < docidLimit ⌝ }
-    ensures { λ _. ⌜ now (room .exit) ≡ set (now (room .entry)) at (signedDocid docid) ⌝ }
+    ensures { λ _. ⌜ now (room .exit) ≡ set (now (room .entry)) at (docidOf docid) ⌝ }
 {
     if at < room.len() {
-        room[at] = docid as i64;
+        room[at] = doclist::keys::docid_of(docid);
     }
 }
 
 // Notes the docid if its row satisfies the query. How many are noted then.
 fn note(room: &mut [i64], count: usize, docid: u64, holds: bool) -> usize
-    requires { ⌜ (count < docidLimit) × (docid < docidLimit) ⌝ }
-    ensures { λ r. ⌜ (r ≡ pick holds (count + 1) count) × (now (room .exit) ≡ pick holds (set (now (room .entry)) count (signedDocid docid)) (now (room .entry))) ⌝ }
+    requires { ⌜ count < lastKey ⌝ }
+    ensures { λ r. ⌜ (r ≡ pick holds (count + 1) count) × (now (room .exit) ≡ pick holds (set (now (room .entry)) count (docidOf docid)) (now (room .entry))) ⌝ }
 {
     if holds {
         put_docid(room, count, docid);
@@ -205,7 +208,17 @@ fn take_row(
     Evaluated { holds, next }
 }
 
-// Goes through all rows, from the least docid on. The docids of those that satisfy the query go to the room, which is all
+// The docid of the row to go on with.
+fn row_at(next: Next) -> u64
+    ensures { λ r. ⌜ r ≡ rowAt next ⌝ }
+{
+    match next {
+        Next::Docid(docid) => docid,
+        Next::Last => MAX_KEY,
+    }
+}
+
+// Goes through all rows, from the least docid on; the last docid has a row, if only an empty one. The docids of those that satisfy the query go to the room, which is all
 // zeros. How many they are.
 fn rows(
     query: query::Query,
@@ -235,13 +248,11 @@ fn rows(
     let mut from: u64 = 0;
     let mut count: usize = 0;
     loop {
-        let Next::Docid(docid) = next else {
-            return count;
-        };
+        let docid = row_at(next);
         if docid < from {
             return count;
         }
-        if doclist::DOCID_LIMIT <= docid {
+        if count == MAX_COUNT {
             return count;
         }
         let row = take_row(
@@ -262,6 +273,9 @@ fn rows(
             &mut spare,
         );
         count = note(room, count, docid, row.holds);
+        if docid == MAX_KEY {
+            return count;
+        }
         from = docid + 1;
         next = row.next;
     }

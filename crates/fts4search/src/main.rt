@@ -1,6 +1,7 @@
 // One search (document 01, "Marked examples", last paragraph): the query comes from standard input, the one leaf from the
 // file leaf0.bin, the columns are those of P12. It writes `docs` with the count and then each docid on a line of its own;
 // or `refused` with the two numbers; or `no leaf`.
+use doclist::keys;
 use libc::STDIN_FILENO;
 use libc::STDOUT_FILENO;
 use search::Answer;
@@ -70,15 +71,23 @@ fn refused(number: u64, beside: usize) {
     line(beside as u64);
 }
 
-// The first docids of the room, each on a line. The search lists none below 0; the test is for the cast.
+// A docid and a line's end.
+fn docid_line(docid: i64) {
+    let key = keys::key_of(docid);
+    if keys::ZERO_KEY <= key {
+        line(key - keys::ZERO_KEY);
+        return;
+    }
+    io::write_all(STDOUT_FILENO, b"-");
+    line(keys::ZERO_KEY - key);
+}
+
+// The first docids of the room, each on a line.
 fn list(room: &[i64], n: usize) {
     let mut i: usize = 0;
     while i < n {
         if i < room.len() {
-            let d = room[i];
-            if d >= 0 {
-                line(d as u64);
-            }
+            docid_line(room[i]);
         }
         i += 1;
     }

@@ -188,8 +188,8 @@ module _ (s : List ℕ) where
       let d4 : drop l s ≡ bytes ++ tail = drop-past s (f + v) (encode m) _ d3 in
       let r2 : v ≤ length s - f = drop-room s f suffix _ d2 in
       let r4 : m ≤ length s - l = drop-room s l bytes _ d4 in
-      let e1 = reads maxVarint s at v (suffix ++ (encode m ++ (bytes ++ tail))) (omega arith) (omega arith) d1 in
-      let e2 = reads maxVarint s (f + v) m (bytes ++ tail) (omega arith) (omega arith) d3 in (
+      let e1 = reads maxVarint s at v (suffix ++ (encode m ++ (bytes ++ tail))) (omega arith) (omega arith) (omega arith) d1 in
+      let e2 = reads maxVarint s (f + v) m (bytes ++ tail) (omega arith) (omega arith) (omega arith) d3 in (
         f,
         l,
         simp (e1, ne-eqb v 0 (omega arith), le-ltb maxWord v (omega arith), le-ltb (maxWord - v) p (omega arith), le-ltb (length s - f) v r2, e2, le-ltb (length s - l) m r4),
@@ -220,7 +220,7 @@ module _ (s : List ℕ) where
       later i =
           let t = ne-eqb at firstWord i in
           let d = rw t at e in
-          let e1 = reads maxVarint s at p (sized suffix ++ (sized bytes ++ tail)) (omega arith) (omega arith) d in
+          let e1 = reads maxVarint s at p (sized suffix ++ (sized bytes ++ tail)) (omega arith) (omega arith) (omega arith) d in
           let k = suffix-found p (at + length (encode p)) suffix bytes tail small h0 h1 (drop-past s at (encode p) _ d) in
           record {
             from = k .0;

@@ -47,8 +47,8 @@ module _ (count : ℕ) (s : List ℕ) (small : length s < 2 ^ 63) where
 
   pub height-there : (ts : List Term) (rest : List ℕ) → s ≡ encodeLeaf ts ++ rest → readAt s 0 ≡ varint.Value 0 1
   unfolding encodeIn
-  height-there [] rest e = reads maxVarint s 0 0 rest (omega arith) (omega arith) e
-  height-there (t ∷ ts) rest e = reads maxVarint s 0 0 (termBytes (t .word) (t .entries) ++ encodeTerms (t .word) ts ++ rest) (omega arith) (omega arith) (e ∙ simp append-assoc)
+  height-there [] rest e = reads maxVarint s 0 0 rest (omega arith) (omega arith) (omega arith) e
+  height-there (t ∷ ts) rest e = reads maxVarint s 0 0 (termBytes (t .word) (t .entries) ++ encodeTerms (t .word) ts ++ rest) (omega arith) (omega arith) (omega arith) (e ∙ simp append-assoc)
 
   -- the terms of a leaf are passed
   passed : (ts : List Term) (tail : List ℕ) → WellFormed count ts → s ≡ encodeLeaf ts ++ tail → Passed count s small (length s) firstWord [] 0 ts tail

@@ -7,3 +7,4 @@ pub mod Walking
 pub mod Laws
 pub mod Checks
 pub mod Once
+pub mod Nine

@@ -5,13 +5,14 @@ use native.Mathlib.Omega.{arith}
 use mathlib.Core.Path.{_≡_, refl, sym, ap, ap₂, _∙_, subst}
 use mathlib.Core.Logic.{_↔_, inl, inr, ⊎-elim}
 use mathlib.Core.List.{List, [], _∷_}
-use lib.IntN.{ℤ, natAbs}
+use lib.IntN.{ℤ}
 use lib.ListN.{length}
 use denote.Enum.Declared.{tagOf}
 use Rattle.common.specs.Bytes.{part}
 use Rattle.common.specs.Refusals.{numbers, Exclusive, Numbered}
 use Rattle.common.proofs.Refusals.{number-differs, second-differs}
 use Rattle.common.proofs.Refusals as refusals
+use Rattle.doclist.specs.Docid.{zeroKey, keyOf}
 use Rattle.doclist.specs.Doclist.{Entry, WellFormed, encodeList, entryPlace}
 use Rattle.doclist.proofs.EntryAt as entry-at
 use Rattle.doclist.specs.declared.EntryAt.{EntryAt}
@@ -50,7 +51,7 @@ at-last p q = cc
 
 pub entry-inside : {ts : List Term} {word : List ℕ} {docid start size : ℕ} → EntryIs ts word docid start size → start + size ≤ length (encodeLeaf ts)
 entry-inside {docid = docid} e =
-    let p = placed 0 0 (e .list .term .entries) docid (e .first) (e .last) (e .place) in
+    let p = placed 0 zeroKey (e .list .term .entries) docid (e .first) (e .last) (e .place) in
     omega (arith, placed-within p .1, e .ends, e .list .whole, e .list .inside)
 
 pub entry-once : (count : ℕ) {ts : List Term} {word : List ℕ} {docid a n b m : ℕ} → leaf.WellFormed count ts → EntryIs ts word docid a n → EntryIs ts word docid b m
@@ -76,7 +77,7 @@ found-none ts sought word.Broken k t = absurd t
 pub found-absent : (es : List Entry) (docid : ℕ) (r : EntryAt) → OneOf (1 ∷ 2 ∷ []) (tagOf entry-at.the-type r) → r ≡ entryPlace es docid → entryPlace es docid ≡ Absent
 found-absent es docid (At first last) k e = absurd (miss (1 ∷ 2 ∷ []) 0 tt k)
 found-absent es docid Absent k e = sym e
-found-absent es docid Refused k e = place-not-refused 0 0 es docid (sym e)
+found-absent es docid Refused k e = place-not-refused 0 zeroKey es docid (sym e)
 
 pub found-no-entry : (ts : List Term) (sought : List ℕ) (docid : ℕ) (r : EntryAt) → OneOf (1 ∷ 2 ∷ []) (tagOf entry-at.the-type r) → EntryFound ts sought docid r → NoEntry ts sought docid
 found-no-entry ts sought docid (At first last) k t = absurd (miss (1 ∷ 2 ∷ []) 0 tt k)
@@ -94,7 +95,7 @@ module _ (count : ℕ) (leaf : List ℕ) {ts : List Term} {sought : List ℕ} {f
 
   pub list-entry-most : {first last : ℕ} → r ≡ At first last → (first < last) × (last ≤ bytes)
   list-entry-most {first} {last} e =
-      let p = placed-within (placed 0 0 (l .term .entries) docid first last (sym place-is ∙ e)) in
+      let p = placed-within (placed 0 zeroKey (l .term .entries) docid first last (sym place-is ∙ e)) in
       (p .0, omega (arith, p .1, l .whole))
 
   pub list-entry : {first last : ℕ} → r ≡ At first last → EntryFound ts sought docid (At (from + first) (from + last))
@@ -117,10 +118,6 @@ module _ (count : ℕ) (leaf : List ℕ) {ts : List Term} {sought : List ℕ} {f
   list-no-entry k start size e =
       absent-at (found-absent (l .term .entries) docid r k place-is) (ap (λ (t : Term). entryPlace (t .entries) docid) (term-once count (g .good) l (e .list)) ∙ e .place)
 
--- ---- the docid
-
--- ---- whether number 1 is due
-
 -- ---- the check of each leaf
 
 not-accepted : (r : LeafCheck) → OneOf (1 ∷ 2 ∷ []) (tagOf leaf-check.the-type r) → r ≡ Accepted → ⊥
@@ -137,22 +134,22 @@ accepted-leaf count bytes r c e = check.accepted-exactly count bytes .0 (c Accep
 
 module _ (columns : ℕ) (newer older sought : List ℕ) (docid : ℤ) where
   abbrev Right : Type 0
-  Right = DecidingShape columns newer older sought docid
+  Right = DecidingShape columns newer older sought
 
   -- what each answer comes to
   abbrev pub DecidingClaim : EntryAnswer → Type 0
-  DecidingClaim (Newer start size) = Right × ((ts us : List Term) × BothLeaves columns newer older ts us × EntryIs ts sought (natAbs docid) start size)
+  DecidingClaim (Newer start size) = Right × ((ts us : List Term) × BothLeaves columns newer older ts us × EntryIs ts sought (keyOf docid) start size)
   DecidingClaim (Older start size) =
-      Right × ((ts us : List Term) × BothLeaves columns newer older ts us × NoEntry ts sought (natAbs docid) × EntryIs us sought (natAbs docid) start size)
+      Right × ((ts us : List Term) × BothLeaves columns newer older ts us × NoEntry ts sought (keyOf docid) × EntryIs us sought (keyOf docid) start size)
   DecidingClaim Nothing =
-      Right × ((ts us : List Term) × BothLeaves columns newer older ts us × NoEntry ts sought (natAbs docid) × NoEntry us sought (natAbs docid))
+      Right × ((ts us : List Term) × BothLeaves columns newer older ts us × NoEntry ts sought (keyOf docid) × NoEntry us sought (keyOf docid))
   DecidingClaim Shape = Right → ⊥
   DecidingClaim NewerBroken = Right × NoLeaf columns newer
   DecidingClaim OlderBroken = Right × IsLeaf columns newer × NoLeaf columns older
 
   -- with the terms of both leaves at hand, the claim of an answer that decides holds
-  pub decides-claim : (ts us : List Term) → DecidingShape columns newer older sought docid → BothLeaves columns newer older ts us → (r : EntryAnswer)
-      → Decides ts us sought (natAbs docid) r → DecidingClaim r
+  pub decides-claim : (ts us : List Term) → DecidingShape columns newer older sought → BothLeaves columns newer older ts us → (r : EntryAnswer)
+      → Decides ts us sought (keyOf docid) r → DecidingClaim r
   decides-claim ts us h l (Newer start size) d = (h, (ts, us, l, d))
   decides-claim ts us h l (Older start size) d = (h, (ts, us, l, d .0, d .1))
   decides-claim ts us h l Nothing d = (h, (ts, us, l, d .0, d .1))
@@ -161,40 +158,40 @@ module _ (columns : ℕ) (newer older sought : List ℕ) (docid : ℤ) where
   decides-claim ts us h l OlderBroken d = absurd d
 
   -- two answers about the terms of the leaves
-  module _ (h : DecidingShape columns newer older sought docid) {ts us vs ws : List Term} (l : BothLeaves columns newer older ts us) (m : BothLeaves columns newer older vs ws) where
+  module _ (h : DecidingShape columns newer older sought) {ts us vs ws : List Term} (l : BothLeaves columns newer older ts us) (m : BothLeaves columns newer older vs ws) where
     newer-same : vs ≡ ts
     newer-same = same-terms columns newer vs ts (omega (arith, h .size)) (m .0) (l .0)
 
     older-same : ws ≡ us
     older-same = same-terms columns older ws us (omega (arith, h .size)) (m .1) (l .1)
 
-    both-newer : (a n b k : ℕ) → EntryIs ts sought (natAbs docid) a n → EntryIs vs sought (natAbs docid) b k → Newer a n ≡ Newer b k
+    both-newer : (a n b k : ℕ) → EntryIs ts sought (keyOf docid) a n → EntryIs vs sought (keyOf docid) b k → Newer a n ≡ Newer b k
     both-newer a n b k e f =
-        let q = entry-once columns (l .0 .good) e (subst (λ (x : List Term). EntryIs x sought (natAbs docid) b k) newer-same f) in
+        let q = entry-once columns (l .0 .good) e (subst (λ (x : List Term). EntryIs x sought (keyOf docid) b k) newer-same f) in
         ap₂ Newer (q .0) (q .1)
 
-    both-older : (a n b k : ℕ) → EntryIs us sought (natAbs docid) a n → EntryIs ws sought (natAbs docid) b k → Older a n ≡ Older b k
+    both-older : (a n b k : ℕ) → EntryIs us sought (keyOf docid) a n → EntryIs ws sought (keyOf docid) b k → Older a n ≡ Older b k
     both-older a n b k e f =
-        let q = entry-once columns (l .1 .good) e (subst (λ (x : List Term). EntryIs x sought (natAbs docid) b k) older-same f) in
+        let q = entry-once columns (l .1 .good) e (subst (λ (x : List Term). EntryIs x sought (keyOf docid) b k) older-same f) in
         ap₂ Older (q .0) (q .1)
 
-    newer-not : (a n : ℕ) → EntryIs ts sought (natAbs docid) a n → NoEntry vs sought (natAbs docid) → ⊥
-    newer-not a n e f = subst (λ (x : List Term). NoEntry x sought (natAbs docid)) newer-same f a n e
+    newer-not : (a n : ℕ) → EntryIs ts sought (keyOf docid) a n → NoEntry vs sought (keyOf docid) → ⊥
+    newer-not a n e f = subst (λ (x : List Term). NoEntry x sought (keyOf docid)) newer-same f a n e
 
-    older-not : (a n : ℕ) → EntryIs us sought (natAbs docid) a n → NoEntry ws sought (natAbs docid) → ⊥
-    older-not a n e f = subst (λ (x : List Term). NoEntry x sought (natAbs docid)) older-same f a n e
+    older-not : (a n : ℕ) → EntryIs us sought (keyOf docid) a n → NoEntry ws sought (keyOf docid) → ⊥
+    older-not a n e f = subst (λ (x : List Term). NoEntry x sought (keyOf docid)) older-same f a n e
 
   -- and one whose claim holds decides
-  pub claim-decides : (ts us : List Term) → DecidingShape columns newer older sought docid → BothLeaves columns newer older ts us → (r : EntryAnswer)
-      → DecidingClaim r → Decides ts us sought (natAbs docid) r
-  claim-decides ts us h l (Newer start size) p = subst (λ (x : List Term). EntryIs x sought (natAbs docid) start size) (newer-same h l (p .1 .2)) (p .1 .3)
+  pub claim-decides : (ts us : List Term) → DecidingShape columns newer older sought → BothLeaves columns newer older ts us → (r : EntryAnswer)
+      → DecidingClaim r → Decides ts us sought (keyOf docid) r
+  claim-decides ts us h l (Newer start size) p = subst (λ (x : List Term). EntryIs x sought (keyOf docid) start size) (newer-same h l (p .1 .2)) (p .1 .3)
   claim-decides ts us h l (Older start size) p = (
-    subst (λ (x : List Term). NoEntry x sought (natAbs docid)) (newer-same h l (p .1 .2)) (p .1 .3),
-    subst (λ (x : List Term). EntryIs x sought (natAbs docid) start size) (older-same h l (p .1 .2)) (p .1 .4),
+    subst (λ (x : List Term). NoEntry x sought (keyOf docid)) (newer-same h l (p .1 .2)) (p .1 .3),
+    subst (λ (x : List Term). EntryIs x sought (keyOf docid) start size) (older-same h l (p .1 .2)) (p .1 .4),
   )
   claim-decides ts us h l Nothing p = (
-    subst (λ (x : List Term). NoEntry x sought (natAbs docid)) (newer-same h l (p .1 .2)) (p .1 .3),
-    subst (λ (x : List Term). NoEntry x sought (natAbs docid)) (older-same h l (p .1 .2)) (p .1 .4),
+    subst (λ (x : List Term). NoEntry x sought (keyOf docid)) (newer-same h l (p .1 .2)) (p .1 .3),
+    subst (λ (x : List Term). NoEntry x sought (keyOf docid)) (older-same h l (p .1 .2)) (p .1 .4),
   )
   claim-decides ts us h l Shape p = absurd (p h)
   claim-decides ts us h l NewerBroken p = absurd (p .1 ts (l .0))
@@ -240,10 +237,10 @@ module _ (columns : ℕ) (newer older sought : List ℕ) (docid : ℤ) where
 
   -- ---- the claims and the refusals
 
-  pub refusals-exclusive : Exclusive (decidingRefusals columns newer older sought docid)
+  pub refusals-exclusive : Exclusive (decidingRefusals columns newer older sought)
   refusals-exclusive = (λ n h. n h, leaves-exclusive columns 0 (newer ∷ older ∷ []))
 
-  pub refusals-numbered : Numbered (decidingRefusals columns newer older sought docid)
+  pub refusals-numbered : Numbered (decidingRefusals columns newer older sought)
   refusals-numbered = (omega arith, leaves-numbered columns 0 (newer ∷ older ∷ []))
 
   abbrev Is : EntryAnswer → Type 0
@@ -252,7 +249,7 @@ module _ (columns : ℕ) (newer older sought : List ℕ) (docid : ℤ) where
   -- number 0 says that both leaves are accepted
   pub accepted-exactly : {r : EntryAnswer} → Is r → (decidingNumbers r .number ≡ 0) ↔ (Right × IsLeaf columns newer × IsLeaf columns older)
   accepted-exactly {r} d =
-      let k = refusals.accepted-exactly (decidingRefusals columns newer older sought docid) refusals-exclusive refusals-numbered (decidingNumbers r .second) (decidingNumbers r) (d .answered) in
+      let k = refusals.accepted-exactly (decidingRefusals columns newer older sought) refusals-exclusive refusals-numbered (decidingNumbers r .second) (decidingNumbers r) (d .answered) in
       (λ e. let q = k .0 e in (q .0, q .1 .0, q .1 .1 .0), λ h. k .1 (h .0, (h .1, (h .2, tt))))
 
   -- an answer with number 0, in the terms of both leaves

@@ -3,11 +3,12 @@
 use Prim.Native.Nat.{ℕ, _+_, _-_, _≤_}
 use mathlib.Core.Path.{_≡_}
 use mathlib.Core.List.{List, [], _∷_}
-use lib.IntN.{ℤ, pos, natAbs}
+use lib.IntN.{ℤ}
 use lib.ListN.{length}
 use Rattle.common.specs.Bytes.{part}
 use Rattle.common.specs.Refusals.{Numbers, numbers, Refusal, FirstDue, shapeRefusal}
 use Rattle.common.specs.Bounds.{maxColumns, maxIndexBytes}
+use Rattle.doclist.specs.Docid.{keyOf}
 use Rattle.doclist.specs.Doclist.{entryPlace}
 use Rattle.doclist.specs.declared.EntryAt.{EntryAt}
 use Rattle.doclist.specs.declared.EntryAt.the-variants.{At, Absent, Refused}
@@ -17,7 +18,7 @@ use Rattle.lookup.specs.Words.{WordShape}
 use Rattle.lookup.specs.declared.EntryAnswer.{EntryAnswer}
 use Rattle.lookup.specs.declared.EntryAnswer.the-variants.{Newer, Older, Nothing, Shape, NewerBroken, OlderBroken}
 
--- ---- the entry of a docid in one leaf
+-- ---- the entry of a docid in one leaf; the docid stands as its key
 
 -- in the posting list of `word`, the entry of `docid` is the `size` bytes from `start` on, from its docid number to its closing 0
 pub record EntryIs (ts : List Term) (word : List ℕ) (docid start size : ℕ) : Type 0 where
@@ -41,13 +42,12 @@ EntryFound ts word docid Refused = ⊥
 
 -- ---- the entry that decides
 
--- number 1 is not due: both leaves together have at most 65,536 bytes, and the docid is not negative
-pub record DecidingShape (columns : ℕ) (newer older word : List ℕ) (docid : ℤ) : Type 0 where
+-- number 1 is not due: both leaves together have at most 65,536 bytes
+pub record DecidingShape (columns : ℕ) (newer older word : List ℕ) : Type 0 where
   pub some : 1 ≤ columns
   pub few : columns ≤ maxColumns
   pub size : length newer + length older ≤ maxIndexBytes
   pub word-right : WordShape word
-  pub natural : docid ≡ pos (natAbs docid)
 
 -- the two leaves have these terms
 abbrev pub BothLeaves : ℕ → List ℕ → List ℕ → List Term → List Term → Type 0
@@ -74,16 +74,16 @@ decidingNumbers NewerBroken = numbers 3 0
 decidingNumbers OlderBroken = numbers 3 1
 
 -- "Checks: 1, then 3 (the newer leaf is 0)."
-abbrev pub decidingRefusals : ℕ → List ℕ → List ℕ → List ℕ → ℤ → List Refusal
-decidingRefusals columns newer older word docid =
-    shapeRefusal (DecidingShape columns newer older word docid) ∷ leafRefusals columns 0 (newer ∷ older ∷ [])
+abbrev pub decidingRefusals : ℕ → List ℕ → List ℕ → List ℕ → List Refusal
+decidingRefusals columns newer older word =
+    shapeRefusal (DecidingShape columns newer older word) ∷ leafRefusals columns 0 (newer ∷ older ∷ [])
 
 -- ---- the claim
 
 -- what an answer claims: the first refusal that is due; where none is, the entry that decides
 pub record DecidingIs (columns : ℕ) (newer older word : List ℕ) (docid : ℤ) (r : EntryAnswer) : Type 0 where
-  pub answered : FirstDue (decidingRefusals columns newer older word docid) (numbers 0 (decidingNumbers r .second)) (decidingNumbers r)
-  pub decides : (ts us : List Term) → DecidingShape columns newer older word docid → BothLeaves columns newer older ts us → Decides ts us word (natAbs docid) r
+  pub answered : FirstDue (decidingRefusals columns newer older word) (numbers 0 (decidingNumbers r .second)) (decidingNumbers r)
+  pub decides : (ts us : List Term) → DecidingShape columns newer older word → BothLeaves columns newer older ts us → Decides ts us word (keyOf docid) r
 
 -- ---- the part
 

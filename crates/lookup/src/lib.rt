@@ -254,13 +254,13 @@ pub enum EntryAnswer {
     Older { start: usize, size: usize },
     // Neither leaf has an entry for the word and the docid.
     Nothing,
-    // The column count, the leaves' size together, the word's length or the docid is not allowed.
+    // The column count, the leaves' size together or the word's length is not allowed.
     Shape,
     NewerBroken,
     OlderBroken,
 }
 
-// Where the entry of a docid for a word stands in a leaf that was checked.
+// Where the entry of a docid for a word stands in a leaf that was checked; the docid comes as its key.
 fn entry_in(leaf: &[u8], columns: u64, word: &[u8], docid: u64) -> EntryAt
     requires { ⌜ (0 < length (now word)) × ((ts : List Term) × LeafIs columns (now leaf) ts) ⌝ }
     ensures { λ r. ⌜ ((ts : List Term) → LeafIs columns (now (leaf .entry)) ts → EntryFound ts (now (word .entry)) docid r) ⌝ }
@@ -308,8 +308,8 @@ fn decide(newer: &[u8], older: &[u8], columns: u64, word: &[u8], docid: u64) -> 
 }
 
 // Whether number 1 is not due to a lookup in two leaves.
-fn entry_shape(newer: &[u8], older: &[u8], columns: u32, word: &[u8], docid: i64) -> bool
-    ensures { λ r. ⌜ ((r ≡ true) ↔ DecidingShape columns (now (newer .entry)) (now (older .entry)) (now (word .entry)) docid) ⌝ }
+fn entry_shape(newer: &[u8], older: &[u8], columns: u32, word: &[u8]) -> bool
+    ensures { λ r. ⌜ ((r ≡ true) ↔ DecidingShape columns (now (newer .entry)) (now (older .entry)) (now (word .entry))) ⌝ }
 {
     if columns == 0 {
         return false;
@@ -329,14 +329,14 @@ fn entry_shape(newer: &[u8], older: &[u8], columns: u32, word: &[u8], docid: i64
     if common::MAX_WORD < word.len() {
         return false;
     }
-    docid >= 0
+    true
 }
 
 // The entry that decides in two leaves, the newer and the older.
 pub fn find_entry(newer: &[u8], older: &[u8], columns: u32, word: &[u8], docid: i64) -> EntryAnswer
     ensures { λ r. ⌜ ((a : EntryAnswer) → (r ≡ a) ↔ DecidingIs columns (now (newer .entry)) (now (older .entry)) (now (word .entry)) docid a) ⌝ }
 {
-    if !entry_shape(newer, older, columns, word, docid) {
+    if !entry_shape(newer, older, columns, word) {
         return EntryAnswer::Shape;
     }
     let LeafCheck::Accepted = leaf::check(newer, columns) else {
@@ -345,7 +345,13 @@ pub fn find_entry(newer: &[u8], older: &[u8], columns: u32, word: &[u8], docid: 
     let LeafCheck::Accepted = leaf::check(older, columns) else {
         return EntryAnswer::OlderBroken;
     };
-    decide(newer, older, columns as u64, word, docid as u64)
+    decide(
+        newer,
+        older,
+        columns as u64,
+        word,
+        doclist::keys::key_of(docid),
+    )
 }
 
 // The number of an answer.

@@ -3,7 +3,7 @@ use Prim.Native.Nat.{ℕ}
 use mathlib.Core.Path.{_≡_}
 use mathlib.Core.Logic.{_↔_}
 use mathlib.Core.List.{List}
-use Rattle.doclist.specs.Doclist.{docidLimit}
+use Rattle.doclist.specs.Docid.{docidLimit}
 use Rattle.doclist.proofs.Content.{rising-low, rising-same}
 use Rattle.meaning.specs.Listing.{Lists}
 

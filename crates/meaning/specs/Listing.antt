@@ -5,13 +5,14 @@ use lib.IntN.{ℤ, pos}
 use mathlib.Core.Logic.{_↔_}
 use mathlib.Core.List.{List, _++_, map, List·Memᴰ}
 use lib.ListN.{length, replicate}
-use Rattle.doclist.specs.Doclist.{Rising, docidLimit}
+use Rattle.doclist.specs.Docid.{docidLimit, docidOf}
+use Rattle.doclist.specs.Doclist.{Rising}
 use Rattle.leaf.specs.Leaf.{Term}
 use Rattle.query.specs.Tree.{Tree}
 use Rattle.meaning.specs.Satisfies.{SatisfiesWith, bareDistance}
 use Rattle.meaning.specs.Index.{live}
 
--- exactly the docids with a property: all of them, no other, each once, in rising order
+-- exactly the docids with a property, by their keys: all of them, no other, each once, in rising order
 pub record Lists (P : ℕ → Type 0) (docids : List ℕ) : Type 0 where
   pub rising : Rising 0 docidLimit docids
   pub exact : (d : ℕ) → d < docidLimit → List·Memᴰ d docids ↔ P d
@@ -23,13 +24,9 @@ AnswersWith n leaves tree docids = Lists (λ d. SatisfiesWith n (live leaves) d 
 abbrev pub Answers : List (List Term) → Tree → List ℕ → Type 0
 Answers leaves tree docids = AnswersWith bareDistance leaves tree docids
 
--- how a docid is shown in the result room
-abbrev pub signedDocid : ℕ → ℤ
-signedDocid d = pos d
-
--- a room of `n` numbers: the docids, then zeros
+-- a room of `n` numbers: the docids of these keys, then zeros
 abbrev pub roomWith : ℕ → List ℕ → List ℤ
-roomWith n docids = map signedDocid docids ++ replicate (n - length docids) (pos 0)
+roomWith n docids = map docidOf docids ++ replicate (n - length docids) (pos 0)
 
 abbrev pub zeros : ℕ → List ℤ
 zeros n = replicate n (pos 0)

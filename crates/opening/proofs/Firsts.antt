@@ -1,13 +1,15 @@
 -- The first entry of a posting list, where it is read (`front-has`): a cursor that is made there stands on the whole list.
 use Prim.Native.Nat.{ℕ, suc, _+_, _-_, _≤_, _<_}
 use native.Mathlib.Omega.{arith}
-use mathlib.Core.Path.{_≡_, refl, ap, _∙_}
+use mathlib.Core.Path.{_≡_, refl, sym, ap, _∙_, subst}
 use mathlib.Core.List.{List, [], _∷_, _++_}
 use lib.ListN.{length, drop, length-append}
-use Rattle.varint.specs.Varint.{encode, readAt}
+use Rattle.varint.specs.Varint.{encode, maxVarint, readAt}
 use Rattle.varint.specs.declared.Varint.the-variants.{Value, Refused}
-use Rattle.varint.proofs.Laws.{refused-no-value, value-same, next-same}
+use Rattle.varint.proofs.Laws.{encode-pos, refused-no-value, value-same, next-same}
+use Rattle.doclist.specs.Docid.{zeroKey, bitsOf, keyOfBits}
 use Rattle.doclist.specs.Doclist.{Column, Entry, Columns, Entries, WellFormed, entryBytes, encodeFrom, encodeList}
+use Rattle.doclist.proofs.Docids.{bits-key}
 use Rattle.doclist.proofs.Entries.{entry-number, first-entry}
 use Rattle.row.specs.Row.{bodyBytes}
 use Rattle.cursors.specs.Arrays.{ListAt}
@@ -29,17 +31,17 @@ entries-most low few many (e ∷ es) h g = (g .0, g .1, columns-most 0 few many 
 record ListBegins (leaf : List ℕ) (list next : ℕ) (entries : List Entry) (d body : ℕ) : Type 0 where
   pub reads : readAt leaf list ≡ Value d body
   pub inside : body < next
-  pub stands : ListAt leaf entries d body (next - 1)
+  pub stands : ListAt leaf entries (keyOfBits d) body (next - 1)
 
 begins : (leaf : List ℕ) (list next : ℕ) (entries : List Entry) (tail : List ℕ) (columns : ℕ) → WellFormed columns entries
     → drop list leaf ≡ encodeList entries ++ tail → next ≡ list + length (encodeList entries) → (d body : ℕ) × ListBegins leaf list next entries d body
 begins leaf list next [] tail columns w e q = absurd (omega (arith, w .some-entry))
 begins leaf list next (x ∷ xs) tail columns w e q =
-    let v : ℕ = x .docid - 0 in
+    let v : ℕ = bitsOf (x .docid) in
     let body : ℕ = list + length (encode v) in
-    let k = entry-number leaf list 0 x (encodeFrom (x .docid) xs ++ tail) (w .entries .1) (first-entry leaf list 0 x xs tail e) in
+    let k = entry-number leaf list zeroKey x (encodeFrom (x .docid) xs ++ tail) (first-entry leaf list zeroKey x xs tail e) in
     let l : length (encodeList (x ∷ xs)) ≡ length (encode v) + length (bodyBytes (x .columns)) + length (encodeFrom (x .docid) xs) =
-    length-append (entryBytes 0 x) (encodeFrom (x .docid) xs)
+    length-append (entryBytes zeroKey x) (encodeFrom (x .docid) xs)
     ∙ ap (λ (n : ℕ). n + length (encodeFrom (x .docid) xs)) (length-append (encode v) (bodyBytes (x .columns))) in
     let b = body-length (x .columns) in
     let g = entries-most 0 columns 16 (x ∷ xs) (w .few-columns) (w .entries) in (
@@ -51,7 +53,8 @@ begins leaf list next (x ∷ xs) tail columns w e q =
         stands =
             record {
               after = tail;
-              same = omega arith;
+              same = bits-key (x .docid) (g .1);
+              some = omega (arith, encode-pos maxVarint v (omega arith));
               bytes = k .1;
               ends = omega arith;
               limit = g .1;
@@ -68,20 +71,22 @@ module _ (leaf : List ℕ) (base : ℕ) (word : List ℕ) (size mask list next :
 
   pub front-has : {v body : ℕ} → readAt leaf list ≡ Value v body
       → (body < next)
-      × FrontHas leaf base word size mask next entries (record { word = word; size = size; mask = mask; docid = v; body = base + body; last = base + next - 1; next = next })
+      × ((docid : ℕ) → docid ≡ keyOfBits v
+      → FrontHas leaf base word size mask next entries (record { word = word; size = size; mask = mask; docid = docid; body = base + body; last = base + next - 1; next = next }))
   front-has {v} {body} r =
       let k = begins leaf list next entries tail columns w e q in
       let h = rw (value-same (k .2 .reads) r, next-same (k .2 .reads) r) at (k .2) in (
         h .inside,
-        record {
-          same-word = refl;
-          same-size = refl;
-          same-mask = refl;
-          same-next = refl;
-          body = body;
-          last = next - 1;
-          body-at = refl;
-          last-at = omega (arith, h .inside);
-          list = h .stands;
-        },
+        λ docid d.
+            record {
+              same-word = refl;
+              same-size = refl;
+              same-mask = refl;
+              same-next = refl;
+              body = body;
+              last = next - 1;
+              body-at = refl;
+              last-at = omega (arith, h .inside);
+              list = subst (λ (k : ℕ). ListAt leaf entries k body (next - 1)) (sym d) (h .stands);
+            },
       )

@@ -9,6 +9,7 @@ use Rattle.varint.specs.Varint.{encode, maxVarint}
 use Rattle.varint.proofs.Laws.{encode-pos}
 use Rattle.offsets.specs.Cut.{cut}
 use Rattle.offsets.proofs.Cuts.{cut-joined}
+use Rattle.doclist.specs.Docid.{zeroKey, bitsOf}
 use Rattle.doclist.specs.Doclist.{Entry, entryBytes, encodeFrom, encodeList}
 use Rattle.doclist.specs.Doclist as doclist
 use Rattle.row.specs.Row.{bodyBytes}
@@ -27,9 +28,9 @@ listSize l = length (encodeList l)
 list-size : (columns : ℕ) (es : List Entry) → doclist.WellFormed columns es → 2 ≤ listSize es
 list-size columns [] w = absurd (omega (arith, w .some-entry))
 list-size columns (e ∷ es) w =
-    let p : 0 < length (encode (e .docid - 0)) = encode-pos maxVarint (e .docid - 0) (omega arith) in
+    let p : 0 < length (encode (bitsOf (e .docid))) = encode-pos maxVarint (bitsOf (e .docid)) (omega arith) in
     let b = body-length (e .columns) in
-    rw (length-append (entryBytes 0 e) (encodeFrom (e .docid) es), length-append (encode (e .docid - 0)) (bodyBytes (e .columns))) (omega arith)
+    rw (length-append (entryBytes zeroKey e) (encodeFrom (e .docid) es), length-append (encode (bitsOf (e .docid))) (bodyBytes (e .columns))) (omega arith)
 
 term-size : (suffix : List ℕ) (es : List Entry) → 0 < length suffix → 3 + listSize es ≤ length (termBytes suffix es)
 term-size suffix es h =

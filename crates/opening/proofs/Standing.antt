@@ -10,6 +10,7 @@ use lib.Dec.{eqb}
 use Rattle.common.specs.Bytes.{same}
 use Rattle.common.proofs.Cases.{bool-case}
 use Rattle.varint.specs.Varint.{encode}
+use Rattle.doclist.specs.Docid.{zeroKey, difference}
 use Rattle.doclist.specs.Doclist.{Entry, entryBytes, encodeFrom, encodeList}
 use Rattle.leaf.specs.Leaf.{Term}
 use Rattle.common.specs.Bits.{contains}
@@ -119,7 +120,7 @@ row-law {nodes} {leaves} {groups = groups} of d i n at c p = (to, from)
 entry-size : (before d : ℕ) (es : List Entry) (e : Entry) → entryFor d es ≡ entry e → length (bodyBytes (e .columns)) ≤ length (encodeFrom before es)
 entry-size before d [] e q = not-both refl q
 entry-size before d (x ∷ es) e q =
-    let head = length-append (encode (x .docid - before)) (bodyBytes (x .columns)) in
+    let head = length-append (encode (difference before (x .docid))) (bodyBytes (x .columns)) in
     let whole = length-append (entryBytes before x) (encodeFrom (x .docid) es) in
     bool-case (eqb (x .docid) d)
     (λ t.
@@ -136,7 +137,7 @@ first-size d (l ∷ ls) e q = from (entryFor d l) refl q (first-size d ls e)
     from : (x : MaybeEntry) → entryFor d l ≡ x → orElse x (firstFor d ls) ≡ entry e → (firstFor d ls ≡ entry e → length (bodyBytes (e .columns)) ≤ listsSize ls)
         → length (bodyBytes (e .columns)) ≤ length (encodeList l) + listsSize ls
     from nothing r s f = omega (arith, f s)
-    from (entry y) r s f = omega (arith, entry-size 0 d l e (r ∙ s))
+    from (entry y) r s f = omega (arith, entry-size zeroKey d l e (r ∙ s))
 
 hit-size : (mask : ℕ) (ls : List (List Entry)) (x : MaybeEntry) → ((e : Entry) → x ≡ entry e → length (bodyBytes (e .columns)) ≤ listsSize ls) → (hits : List Hit)
     → bodiesSize (hitOf mask x ++ hits) ≤ listsSize ls + bodiesSize hits

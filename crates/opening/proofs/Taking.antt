@@ -33,16 +33,17 @@ use Rattle.opening.proofs.Framing.{has-mask}
 -- ---- from a leaf to all leaves
 
 module _ (bytes ends : List ℕ) (cuts : Cuts bytes ends) (j : ℕ) (h : j < length ends) where
-  pub list-lifted : (es : List Entry) (docid body last : ℕ) → ListAt (getD (cut bytes ends) j []) es docid body last
+  pub list-lifted : (es : List Entry) (docid body last : ℕ) → 0 < length es → ListAt (getD (cut bytes ends) j []) es docid body last
       → ListAt bytes es docid (startOf ends j + body) (startOf ends j + last)
-  list-lifted [] docid body last l = l
-  list-lifted (e ∷ rest) docid body last l =
+  list-lifted [] docid body last z l = absurd (omega arith)
+  list-lifted (e ∷ rest) docid body last z l =
       let leaf : List ℕ = getD (cut bytes ends) j [] in
       let tail : List ℕ = drop (getD ends j 0) bytes in
       let i = last-inside l in
       record {
         after = l .after ++ tail;
         same = l .same;
+        some = omega (arith, l .some);
         bytes =
             sym (drop-drop body (startOf ends j) bytes)
             ∙ ap (drop body) (cut-here bytes ends cuts j h)
@@ -261,7 +262,7 @@ module _ (nodes : List Node) (columns : ℕ) (bytes ends : List ℕ) (left : Lis
       let at : ListAt bytes (u .entries) (f .docid) (f .body) (f .last) =
       subst (λ (b : ℕ). ListAt bytes (u .entries) (f .docid) b (f .last)) (sym (s .body-at))
       (subst (λ (l : ℕ). ListAt bytes (u .entries) (f .docid) (startOf ends j + s .body) l) (sym (s .last-at))
-      (list-lifted bytes ends cuts j inside (u .entries) (f .docid) (s .body) (s .last) (s .list))) in
+      (list-lifted bytes ends cuts j inside (u .entries) (f .docid) (s .body) (s .last) (s .good .list .some-entry) (s .list))) in
       let m : f .mask ≡ maskOf nodes w = s .mask ∙ ap (maskOf nodes) (k .4) in
       let more = hold-more (t .hold) f follow x place at m (t .follows-as) in
       let moved = seeks (k .1) (subst (λ (b : List ℕ). RestIs columns (getD (cut bytes ends) j []) (f .next) b (k .1) []) (sym (s .word)) (s .rest)) in

@@ -43,7 +43,7 @@ struct Front {
     size: usize,
     // The query words that match it; 0 where no such word is left.
     mask: u16,
-    // The first entry of its posting list, in all leaves, and the list's last byte.
+    // The first entry of its posting list, in all leaves, by its docid's key, and the list's last byte.
     docid: u64,
     body: u16,
     last: u16,
@@ -187,7 +187,7 @@ fn front_at(
         word,
         size,
         mask,
-        docid: value,
+        docid: doclist::keys::key_of_bits(value),
         body: (base + body) as u16,
         last: (base + next - 1) as u16,
         next,

@@ -66,7 +66,6 @@ pub fn contains(set: u16, i: usize) -> bool
 
 // The position that a number stands for, after the position `base` of its column.
 fn position(column: u64, base: u64, value: u64, next: usize) -> Step
-    requires { ⌜ value < 2 ^ 63 ⌝ }
     ensures { λ r. ⌜ r ≡ positionStep column base value next ⌝ }
 {
     if value < SHIFT {
@@ -75,10 +74,11 @@ fn position(column: u64, base: u64, value: u64, next: usize) -> Step
     if POSITION_LIMIT <= base {
         return Step::Done;
     }
-    let p = base + (value - SHIFT);
-    if POSITION_LIMIT <= p {
+    let more = value - SHIFT;
+    if POSITION_LIMIT - base <= more {
         return Step::Done;
     }
+    let p = base + more;
     Step::At {
         column,
         position: p,

@@ -6,15 +6,20 @@ use native.Mathlib.Omega.{arith}
 use mathlib.Core.Path.{_≡_, refl, sym, ap, _∙_, subst}
 use mathlib.Core.Logic.{_↔_, _⊎_, inl, inr, ⊎-elim}
 use mathlib.Core.List.{List, [], _∷_, _++_, map, List·Memᴰ, List·Memᴰ·not-nil, Memᴰ·map, Memᴰ·of-map}
-use lib.IntN.{ℤ, pos}
+use lib.IntN.{ℤ}
 use lib.ListN.{length, getD, take, length-map}
 use lib.Seq.{take-at}
+use mathlib.Core.Bool.{true}
+use lib.Signed.{ltZ}
+use borrow.Author.Tests.{lt-ltb}
 use Rattle.common.specs.Refusals.{Numbers, numbers, Refusal, FirstDue, roomRefusal}
 use Rattle.common.proofs.Refusals.{passes, gives, number-differs, first-due-once, room-gives}
 use Rattle.common.proofs.Lists.{empty}
 use Rattle.common.proofs.Members.{no-member}
 use Rattle.offsets.proofs.Cuts.{length-cut}
-use Rattle.doclist.specs.Doclist.{Rising, docidLimit}
+use Rattle.doclist.specs.Docid.{docidLimit, docidOf, keyOf}
+use Rattle.doclist.proofs.Docids.{key-of-docid, same-order}
+use Rattle.doclist.specs.Doclist.{Rising}
 use Rattle.doclist.proofs.Content.{rising-low}
 use Rattle.leaf.specs.Leaf.{Term, IsLeaf, NoLeaf, AreLeaves}
 use Rattle.leaf.specs.Answers.{leafRefusals}
@@ -24,7 +29,7 @@ use Rattle.query.proofs.Accepting.{reads-unique}
 use Rattle.meaning.specs.Satisfies.{Satisfies, StandsAt}
 use Rattle.meaning.specs.Written.{WrittenTree}
 use Rattle.meaning.specs.Index.{live}
-use Rattle.meaning.specs.Listing.{Answers, signedDocid, roomWith, zeros}
+use Rattle.meaning.specs.Listing.{Answers, roomWith, zeros}
 use Rattle.meaning.proofs.Lists.{lists-unique}
 use Rattle.meaning.proofs.Some.{holds-some}
 use Rattle.meaning.proofs.Distances.{answers-with-same}
@@ -90,10 +95,10 @@ rising-order low limit (d ∷ ds) h i zero m l = absurd (not-suc-le-zero m)
 rising-order low limit (d ∷ ds) h zero (suc j) m l = rising-from (suc d) limit ds (h .2) j (le-of-suc-le-suc l)
 rising-order low limit (d ∷ ds) h (suc i) (suc j) m l = rising-order (suc d) limit ds (h .2) i j (le-of-suc-le-suc m) (le-of-suc-le-suc l)
 
-shown-member : (d : ℕ) (ds : List ℕ) → List·Memᴰ (signedDocid d) (map signedDocid ds) ↔ List·Memᴰ d ds
+shown-member : (d : ℕ) (ds : List ℕ) → List·Memᴰ (docidOf d) (map docidOf ds) ↔ List·Memᴰ d ds
 shown-member d ds = (
-  λ m. let o = Memᴰ·of-map signedDocid ds m in let e : pos (o .0) ≡ pos d = o .2 in let f : o .0 ≡ d = cc in subst (λ k. List·Memᴰ k ds) f (o .1),
-  λ m. Memᴰ·map signedDocid m,
+  λ m. let o = Memᴰ·of-map docidOf ds m in let f : o .0 ≡ d = sym (key-of-docid (o .0)) ∙ ap keyOf (o .2) ∙ key-of-docid d in subst (λ k. List·Memᴰ k ds) f (o .1),
+  λ m. Memᴰ·map docidOf m,
 )
 
 -- ---- an index without leaves
@@ -194,6 +199,10 @@ module _ (x : Input) (n : ℕ) (r : Answer) (room : List ℤ) (s : Searched x n 
     pub listed-rising : (i j : ℕ) → i < j → j < length (s .docids) → getD (s .docids) i 0 < getD (s .docids) j 0
     listed-rising = rising-order 0 docidLimit (s .docids) (list .rising)
 
+    -- "Rising order in demand 3 is signed order" (document 02, §9)
+    pub listed-signed : (i j : ℕ) → i < j → j < length (s .docids) → ltZ (docidOf (getD (s .docids) i 0)) (docidOf (getD (s .docids) j 0)) ≡ true
+    listed-signed i j h l = same-order (getD (s .docids) i 0) (getD (s .docids) j 0) ∙ lt-ltb _ _ (listed-rising i j h l)
+
     decides : FirstDue (roomRefusal n (length (s .docids)) ∷ []) (numbers 0 (length (s .docids))) (numbersOf r)
     decides = last-due x n (length (s .docids)) (numbersOf r) shape tree query index leaves (s .answered)
 
@@ -210,13 +219,13 @@ module _ (x : Input) (n : ℕ) (r : Answer) (room : List ℤ) (s : Searched x n 
         (e, s .left ∙ ap (roomFor n (s .docids)) e)
 
     -- the docids that stand in the room are those that satisfy
-    pub room-satisfies : length (s .docids) ≤ n → (d : ℕ) → d < docidLimit → List·Memᴰ (signedDocid d) (take (length (s .docids)) room) ↔ Satisfies (live index) d tree
+    pub room-satisfies : length (s .docids) ≤ n → (d : ℕ) → d < docidLimit → List·Memᴰ (docidOf d) (take (length (s .docids)) room) ↔ Satisfies (live index) d tree
     room-satisfies h d l =
-        let e : take (length (s .docids)) room ≡ map signedDocid (s .docids) =
-        ap (take (length (s .docids))) (count-is-length h .1) ∙ take-at (map signedDocid (s .docids)) _ (length (s .docids)) (length-map (s .docids) signedDocid) in
+        let e : take (length (s .docids)) room ≡ map docidOf (s .docids) =
+        ap (take (length (s .docids))) (count-is-length h .1) ∙ take-at (map docidOf (s .docids)) _ (length (s .docids)) (length-map (s .docids) docidOf) in
         let m = shown-member d (s .docids) in
         let t = listed-satisfies d l in
-        (λ k. t .0 (m .0 (subst (List·Memᴰ (signedDocid d)) e k)), λ k. subst (List·Memᴰ (signedDocid d)) (sym e) (m .1 (t .1 k)))
+        (λ k. t .0 (m .0 (subst (List·Memᴰ (docidOf d)) e k)), λ k. subst (List·Memᴰ (docidOf d)) (sym e) (m .1 (t .1 k)))
 
   -- with no leaves the list is empty
   pub no-leaves : (tree : Tree) → ShapeRight x → IsQuery x tree → length (x .leaf-ends) ≡ 0 → (s .docids ≡ []) × (r ≡ answer.Found 0) × (room ≡ zeros n)

@@ -30,13 +30,13 @@ use Rattle.query.specs.Marked as query-spec
 use Rattle.meaning.specs.Satisfies.{StandsAt, Occurrence, Occurs, Satisfies, SatisfiesWith}
 use Rattle.document.proofs.Examples as document
 use Rattle.document.specs.Marked as document-spec
-use Rattle.search.specs.Marked.{a, b, text, liveIn, nearText, word, bareText, bareTree, marked, allMarked}
+use Rattle.search.specs.Marked.{a, b, text, liveIn, nearText, word, bareText, bareTree, marked, allMarked, seven}
 
 -- ---- where the words stand
 
 -- a word that stands once in a text, in column 0
 abbrev Once : List ℕ → List ℕ → ℕ → Type 0
-Once s w position = (column : ℕ) → liveIn s w 7 column ≡ pick (eqb 0 column) (position ∷ []) []
+Once s w position = (column : ℕ) → liveIn s w seven column ≡ pick (eqb 0 column) (position ∷ []) []
 
 a-stands : Once text a 0
 unfolding text span isWord isSeparator fold wordStart wordEnd placesIn same
@@ -58,7 +58,7 @@ member-once p q column m =
 
 module _ (s w : List ℕ) (q : ℕ) (once : Once s w q) where
   -- it occurs there
-  occurs : Occurs (StandsAt (liveIn s) 7) (word w) (record { column = 0; first = q; last = q })
+  occurs : Occurs (StandsAt (liveIn s) seven) (word w) (record { column = 0; first = q; last = q })
   occurs =
       record {
         allowed = refl;
@@ -67,11 +67,11 @@ module _ (s w : List ℕ) (q : ℕ) (once : Once s w q) where
       }
 
   -- and nowhere else
-  occurs-only : (o : Occurrence) → Occurs (StandsAt (liveIn s) 7) (word w) o → (o .first ≡ q) × (o .last ≡ q)
+  occurs-only : (o : Occurrence) → Occurs (StandsAt (liveIn s) seven) (word w) o → (o .first ≡ q) × (o .last ≡ q)
   occurs-only o h =
       let x = h .consecutive .0 in
       let e : x .0 ≡ w = ⊎-elim (λ m. m .1) (λ m. false-not-true (m .0)) (x .1) in
-      let k = subst (λ v. List·Memᴰ (o .first) (liveIn s v 7 (o .column))) e (x .2) in
+      let k = subst (λ v. List·Memᴰ (o .first) (liveIn s v seven (o .column))) e (x .2) in
       let m = member-once (o .first) q (o .column) (subst (List·Memᴰ (o .first)) (once (o .column)) k) in
       (m .1, let l = h .ends in let f = m .1 in omega arith)
 
@@ -184,7 +184,7 @@ b-four : Once four b 5
 unfolding four span isWord isSeparator fold wordStart wordEnd placesIn same
 b-four column = refl
 
-pub bare-is-three : Satisfies (liveIn three) 7 (bareTree a b) × (Satisfies (liveIn four) 7 (bareTree a b) → ⊥) × SatisfiesWith 10 (liveIn four) 7 (bareTree a b)
+pub bare-is-three : Satisfies (liveIn three) seven (bareTree a b) × (Satisfies (liveIn four) seven (bareTree a b) → ⊥) × SatisfiesWith 10 (liveIn four) seven (bareTree a b)
 bare-is-three = (
   (
     record { column = 0; first = 0; last = 0 },

@@ -3,9 +3,11 @@
 use Prim.Native.Nat.{ℕ}
 use mathlib.Core.Bool.{false}
 use mathlib.Core.List.{List, [], _∷_, _++_}
+use lib.IntN.{pos}
 use Rattle.common.specs.Marked.{Example}
 use Rattle.varint.specs.Marked as varint
 use Rattle.tokenizer.specs.Marked as tokenizer
+use Rattle.doclist.specs.Docid.{keyOf}
 use Rattle.doclist.specs.Marked as doclist
 use Rattle.lexer.specs.Token.{Phrase, bare, written, anyColumn}
 use Rattle.query.specs.Tree.{Tree, leaf}
@@ -29,9 +31,13 @@ b = 98 ∷ []
 unfoldable pub text : List ℕ
 text = 97 ∷ 32 ∷ 120 ∷ 32 ∷ 98 ∷ []
 
+-- docid 7, by its key
+abbrev pub seven : ℕ
+seven = keyOf (pos 7)
+
 -- the live positions of an index with one leaf: docid 7, whose one column has this text
 abbrev pub liveIn : List ℕ → Live
-liveIn s = live (documentTerms 7 (s ∷ []) ∷ [])
+liveIn s = live (documentTerms seven (s ∷ []) ∷ [])
 
 -- `v NEAR/n w`, with one digit
 abbrev pub nearText : List ℕ → ℕ → List ℕ → List ℕ
@@ -60,13 +66,13 @@ marked =
       number = 15;
       claim =
           ((names : List (List ℕ)) → Reads names (nearText a 48 b) (nearTree a 0 b))
-          × (Satisfies (liveIn text) 7 (nearTree a 0 b) → ⊥)
+          × (Satisfies (liveIn text) seven (nearTree a 0 b) → ⊥)
           × ((names : List (List ℕ)) → Reads names (nearText b 49 a) (nearTree b 1 a))
-          × Satisfies (liveIn text) 7 (nearTree b 1 a);
+          × Satisfies (liveIn text) seven (nearTree b 1 a);
     }
     ∷ record {
       number = 16;
-      claim = ((names : List (List ℕ)) → Reads names (bareText a a) (bareTree a a)) × (Satisfies (liveIn a) 7 (bareTree a a) → ⊥);
+      claim = ((names : List (List ℕ)) → Reads names (bareText a a) (bareTree a a)) × (Satisfies (liveIn a) seven (bareTree a a) → ⊥);
     }
     ∷ []
 

@@ -5,13 +5,16 @@ ghost use mathlib.Core.Path.{_≡_};
 ghost use Prim.Native.Nat.{_%_, _^_, _<_};
 ghost use Rattle.timing.specs.Numbers.{numberAt, sumAt};
 
+// The sum is kept below this.
+const SUM_LIMIT: u64 = 0x8000_0000_0000_0000;
+
 // The number at a place, or 0.
 fn number(s: &[u8], at: usize) -> u64
     ensures is { λ r. ⌜ r ≡ numberAt (now (s .entry)) at ⌝ }
     ensures small { λ r. ⌜ r < 2 ^ 63 ⌝ }
 {
     match varint::read(s, at) {
-        Varint::Value { value, next: _ } => value,
+        Varint::Value { value, next: _ } => value % SUM_LIMIT,
         Varint::Refused => 0,
     }
 }
@@ -24,7 +27,7 @@ pub extern "C" fn timed_numbers(s: &[u8], places: &[u32]) -> u64
     let mut sum: u64 = 0;
     let mut i = 0;
     while i < places.len() {
-        sum = (sum + number(s, places[i] as usize)) % varint::LIMIT;
+        sum = (sum + number(s, places[i] as usize)) % SUM_LIMIT;
         i += 1;
     }
     sum

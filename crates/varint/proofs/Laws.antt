@@ -14,10 +14,10 @@ use Rattle.common.specs.Bytes.{over}
 use Rattle.common.proofs.Cases.{split, same-or}
 use Rattle.common.proofs.Lists.{drop-head}
 use Rattle.common.proofs.Numbers.{digits-pos, digits-rest, digits-some, digits-join}
-use Rattle.varint.specs.Varint.{encodeIn, encode, maxVarint, StoredAt, readFrom, readIn, readAt, onVarint, roomAfter}
+use Rattle.varint.specs.Varint.{encodeIn, encode, maxVarint, varintLimit, StoredAt, readFrom, fitting, readIn, readAt, onVarint, roomAfter}
 use Rattle.varint.specs.declared.Varint.{Varint}
 use Rattle.varint.specs.declared.Varint.the-variants.{Value, Refused}
-use Rattle.varint.proofs.Steps.{none-left, past-end, last, only-zero, long-zero, more-suc, no-byte}
+use Rattle.varint.proofs.Steps.{none-left, past-end, last, only-zero, long-zero, more-suc, no-byte, fitting-value, fitting-large}
 
 -- ---- what is read
 
@@ -79,6 +79,22 @@ encode-bytes (suc most) v i =
     big : ((i : ℕ) → getD (encodeIn most (v / 128)) i 0 < 256) → (i : ℕ) → getD ((128 + v % 128) ∷ encodeIn most (v / 128)) i 0 < 256
     big r zero = omega arith
     big r (suc i) = r i
+
+-- a number that fits takes no more bytes where more are allowed
+pub encode-enough : (most v : ℕ) → 0 < most → v < 128 ^ most → encodeIn (suc most) v ≡ encodeIn most v
+encode-enough zero v z h = absurd (not-suc-le-zero z)
+encode-enough (suc most) v z h =
+    split v 128
+    (λ l. encode-small (suc most) v l ∙ sym (encode-small most v l))
+    (λ l.
+    let r = digits-rest most v h in
+    encode-big (suc most) v l
+    ∙ ap (λ (t : List ℕ). (128 + v % 128) ∷ t) (encode-enough most (v / 128) (digits-some most (v / 128) (omega arith) r) r)
+    ∙ sym (encode-big most v l))
+
+-- below 2^63 nine are enough
+pub nine-bytes : (v : ℕ) → v < 2 ^ 63 → encode v ≡ encodeIn 9 v
+nine-bytes v h = encode-enough 9 v (omega arith) (omega arith)
 
 -- ---- what is stored is read
 
@@ -196,21 +212,30 @@ sound (suc left) s i value scale v next e =
 
 -- ---- the law
 
+fitting-sound : (r : Varint) {v next : ℕ} → fitting r ≡ Value v next → (r ≡ Value v next) × (v < varintLimit)
+fitting-sound (Value w after) {v} {next} e =
+    split w varintLimit
+    (λ h. let q = sym (fitting-value w after h) ∙ e in (q, omega (arith, value-same refl q)))
+    (λ h. refused-no-value v next (fitting-large w after h) e)
+fitting-sound Refused {v} {next} e = refused-no-value v next refl e
+
 pub stored-in : (most : ℕ) (s : List ℕ) (at v next : ℕ) → 0 < most → (readIn most s at ≡ Value v next) ↔ StoredAt most s at v next
 stored-in most s at v next z = (there, back)
   where
     there : readIn most s at ≡ Value v next → StoredAt most s at v next
     there e =
-        let r = sound most s at 0 1 v next e in
+        let f = fitting-sound (readFrom most s at 0 1) e in
+        let r = sound most s at 0 1 v next (f .0) in
         let p : r .w ≡ v = omega (arith, r .whole) in
-        record { small = rw p at (r .small); ends = rw p at (r .ends); bytes = rw p at (r .bytes) }
+        record { few = rw p at (r .small); small = f .1; ends = rw p at (r .ends); bytes = rw p at (r .bytes) }
 
     back : StoredAt most s at v next → readIn most s at ≡ Value v next
     back h =
-        complete most s at 0 1 v (drop next s) z (h .small) (λ _. refl) (h .bytes)
-        ∙ ap₂ Value (omega arith) (sym (h .ends))
+        let c : readFrom most s at 0 1 ≡ Value v next =
+        complete most s at 0 1 v (drop next s) z (h .few) (λ _. refl) (h .bytes) ∙ ap₂ Value (omega arith) (sym (h .ends))
+        in
+        ap fitting c ∙ fitting-value v next (h .small)
 
--- in one to nine bytes
 pub stored-at : (s : List ℕ) (at v next : ℕ) → (readAt s at ≡ Value v next) ↔ StoredAt maxVarint s at v next
 stored-at s at v next = stored-in maxVarint s at v next (omega arith)
 
@@ -235,9 +260,11 @@ pub reads-stored : {r : Varint} (s : List ℕ) (at : ℕ) → r ≡ readAt s at
 reads-stored s at e = (e, λ v next. let l = stored-at s at v next in (λ p. l .0 (sym e ∙ p), λ h. e ∙ l .1 h))
 
 -- a number that stands before anything is read
-pub reads : (most : ℕ) (s : List ℕ) (at v : ℕ) (t : List ℕ) → 0 < most → v < 128 ^ most → drop at s ≡ encodeIn most v ++ t
+pub reads : (most : ℕ) (s : List ℕ) (at v : ℕ) (t : List ℕ) → 0 < most → v < 128 ^ most → v < varintLimit → drop at s ≡ encodeIn most v ++ t
     → readIn most s at ≡ Value v (at + length (encodeIn most v))
-reads most s at v t z h e = complete most s at 0 1 v t z h (λ _. refl) e ∙ ap₂ Value (omega arith) refl
+reads most s at v t z h l e =
+    let c : readFrom most s at 0 1 ≡ Value v (at + length (encodeIn most v)) = complete most s at 0 1 v t z h (λ _. refl) e ∙ ap₂ Value (omega arith) refl in
+    ap fitting c ∙ fitting-value v (at + length (encodeIn most v)) l
 
 -- ---- where the next number begins
 
@@ -254,7 +281,9 @@ next-within {most = most} {v = v} z h =
 pub encode-split : (most v w : ℕ) (t u : List ℕ) → 0 < most → v < 128 ^ most → w < 128 ^ most → encodeIn most v ++ t ≡ encodeIn most w ++ u
     → (v ≡ w) × (t ≡ u)
 encode-split most v w t u z hv hw e =
-    let p : v ≡ w = value-same (reads most (encodeIn most v ++ t) 0 v t z hv refl) (reads most (encodeIn most v ++ t) 0 w u z hw e) in (
+    let s = encodeIn most v ++ t in
+    let q = value-same (complete most s 0 0 1 v t z hv (λ _. refl) refl) (complete most s 0 0 1 w u z hw (λ _. refl) e) in
+    let p : v ≡ w = omega arith in (
       p,
       sym (drop-append-seam (encodeIn most v) t)
           ∙ ap (drop (length (encodeIn most v))) e
@@ -264,12 +293,12 @@ encode-split most v w t u z hv hw e =
 
 -- ---- what was written is read back
 
-pub room-written : (v : ℕ) (room : List ℕ) → v < 2 ^ 63 → length (encode v) ≤ length room → roomAfter v room ≡ over (encode v) room
-room-written v room h f = rw (lt-ltb v (2 ^ 63) h, le-leb (length (encode v)) (length room) f) refl
+pub room-written : (v : ℕ) (room : List ℕ) → length (encode v) ≤ length room → roomAfter v room ≡ over (encode v) room
+room-written v room f = rw (le-leb (length (encode v)) (length room) f) refl
 
-pub reads-written : (v : ℕ) (room : List ℕ) → v < 2 ^ 63 → length (encode v) ≤ length room
+pub reads-written : (v : ℕ) (room : List ℕ) → v < varintLimit → length (encode v) ≤ length room
     → readAt (roomAfter v room) 0 ≡ Value v (length (encode v))
 reads-written v room h f =
-    ap (λ (s : List ℕ). readAt s 0) (room-written v room h f)
-    ∙ reads maxVarint (over (encode v) room) 0 v (drop (length (encode v)) room) (omega arith) h refl
+    ap (λ (s : List ℕ). readAt s 0) (room-written v room f)
+    ∙ reads maxVarint (over (encode v) room) 0 v (drop (length (encode v)) room) (omega arith) (omega arith) h refl
     ∙ ap (λ (n : ℕ). Value v n) (omega arith)

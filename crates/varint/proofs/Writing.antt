@@ -5,11 +5,11 @@ use native.Mathlib.Omega.{arith}
 use mathlib.Core.Path.{_≡_, refl, sym, ap, _∙_}
 use mathlib.Core.List.{List, [], _++_, append-nil}
 use lib.ListN.{length, set, take, drop, length-set}
-use borrow.Author.Tests.{lt-ltb, le-ltb, le-leb, lt-leb}
+use borrow.Author.Tests.{le-leb, lt-leb}
 use Rattle.common.specs.Bytes.{over}
 use Rattle.common.proofs.Rooms.{set-front, set-after, over-whole}
 use Rattle.varint.specs.Varint.{encodeIn, encode, writtenOf, roomAfter}
-use Rattle.varint.specs.declared.Written.the-variants.{Bytes, NoRoom, TooLarge}
+use Rattle.varint.specs.declared.Written.the-variants.{Bytes, NoRoom}
 use Rattle.varint.proofs.Laws.{encode-small, encode-big, encode-pos, encode-most, room-written}
 
 -- ---- how many bytes a number takes
@@ -92,17 +92,13 @@ module _ {most v : ℕ} {before : List ℕ} {i rest : ℕ} {room : List ℕ} (w 
 
 -- ---- what the writer answers
 
-module _ (v : ℕ) (room : List ℕ) where
-  pub too-large : 2 ^ 63 ≤ v → (TooLarge ≡ writtenOf v room) × (room ≡ roomAfter v room)
-  too-large h = rw (le-ltb v (2 ^ 63) h) (refl, refl)
+module _ (v : ℕ) (room : List ℕ) (n : ℕ) (e : n ≡ length (encode v)) where
+  pub no-room : length room < n → (NoRoom n ≡ writtenOf v room) × (room ≡ roomAfter v room)
+  no-room f =
+      let g : length room < length (encode v) = omega arith in
+      rw (lt-leb (length (encode v)) (length room) g) (ap NoRoom e, refl)
 
-  module _ (h : v < 2 ^ 63) (n : ℕ) (e : n ≡ length (encode v)) where
-    pub no-room : length room < n → (NoRoom n ≡ writtenOf v room) × (room ≡ roomAfter v room)
-    no-room f =
-        let g : length room < length (encode v) = omega arith in
-        rw (lt-ltb v (2 ^ 63) h, lt-leb (length (encode v)) (length room) g) (ap NoRoom e, refl)
-
-    pub written : n ≤ length room → (after : List ℕ) → after ≡ over (encode v) room → (Bytes n ≡ writtenOf v room) × (after ≡ roomAfter v room)
-    written f after p =
-        let g : length (encode v) ≤ length room = omega arith in
-        (rw (lt-ltb v (2 ^ 63) h, le-leb (length (encode v)) (length room) g) (ap Bytes e), p ∙ sym (room-written v room h g))
+  pub written : n ≤ length room → (after : List ℕ) → after ≡ over (encode v) room → (Bytes n ≡ writtenOf v room) × (after ≡ roomAfter v room)
+  written f after p =
+      let g : length (encode v) ≤ length room = omega arith in
+      (rw (le-leb (length (encode v)) (length room) g) (ap Bytes e), p ∙ sym (room-written v room g))

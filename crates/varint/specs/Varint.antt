@@ -1,6 +1,8 @@
 -- Stored numbers (document 01, "Stored numbers"; the field calls them FTS varints). A number is stored seven bits to a
 -- byte, the lowest first; every byte but the last has its top bit set; the shortest form is the only one. The largest
--- number of bytes is a parameter, `most`; document 01 sets it to nine, for the values 0 to 2^63 - 1.
+-- number of bytes is a parameter, `most`. Document 02, §9, sets it to ten, for the values 0 to 2^64 - 1: a tenth byte is 1. A
+-- number below 2^63 takes at most nine (`nine-bytes`), and only docids and their differences may be larger: the rules of lists and
+-- leaves bound every other stored number.
 use Prim.Native.Nat.{ℕ, zero, suc, _+_, _-_, _*_, _/_, _%_, _^_, _<_}
 use mathlib.Core.Path.{_≡_}
 use mathlib.Core.List.{List, [], _∷_, _++_}
@@ -11,7 +13,7 @@ use Rattle.common.specs.Bytes.{over}
 use Rattle.varint.specs.declared.Varint.{Varint}
 use Rattle.varint.specs.declared.Varint.the-variants.{Value, Refused}
 use Rattle.varint.specs.declared.Written.{Written}
-use Rattle.varint.specs.declared.Written.the-variants.{Bytes, NoRoom, TooLarge}
+use Rattle.varint.specs.declared.Written.the-variants.{Bytes, NoRoom}
 
 -- ---- how a number is stored
 
@@ -20,17 +22,26 @@ unfoldable pub encodeIn : ℕ → ℕ → List ℕ
 encodeIn zero v = []
 encodeIn (suc most) v = pick (ltb v 128) (v ∷ []) ((128 + v % 128) ∷ encodeIn most (v / 128))
 
--- one to nine bytes
+-- one to ten bytes
 abbrev pub maxVarint : ℕ
-maxVarint = 9
+maxVarint = 10
 
--- as document 01 stores numbers
+-- the weight of a tenth byte
+abbrev pub tenth : ℕ
+tenth = 2 ^ 63
+
+-- and 64 bits
+abbrev pub varintLimit : ℕ
+varintLimit = 2 ^ 64
+
+-- how a number is stored
 abbrev pub encode : ℕ → List ℕ
 encode v = encodeIn maxVarint v
 
 -- the bytes of `s` from the place `at` up to the place `next` are `v`, stored
 pub record StoredAt (most : ℕ) (s : List ℕ) (at v next : ℕ) : Type 0 where
-  pub small : v < 128 ^ most
+  pub few : v < 128 ^ most
+  pub small : v < varintLimit
   pub ends : next ≡ at + length (encodeIn most v)
   pub bytes : drop at s ≡ encodeIn most v ++ drop next s
 
@@ -46,11 +57,16 @@ readFrom (suc left) s i value scale =
     (pick (ltb (getD s i 0) 256) (readFrom left s (i + 1) (value + (getD s i 0 - 128) * scale) (scale * 128)) Refused))
     Refused
 
+-- what does not fit in 64 bits is refused
+abbrev pub fitting : Varint → Varint
+fitting (Value v next) = pick (ltb v varintLimit) (Value v next) Refused
+fitting Refused = Refused
+
 -- a number of at most `most` bytes at the place `at`
 abbrev pub readIn : ℕ → List ℕ → ℕ → Varint
-readIn most s at = readFrom most s at 0 1
+readIn most s at = fitting (readFrom most s at 0 1)
 
--- a number as document 01 stores it
+-- a stored number
 abbrev pub readAt : List ℕ → ℕ → Varint
 readAt s at = readIn maxVarint s at
 
@@ -68,11 +84,10 @@ onVarint none Refused go = none
 
 -- ---- what writing to the front of a room gives
 
--- the answer: too large, no room, or how many bytes it took
+-- the answer: how many bytes it took, or no room
 abbrev pub writtenOf : ℕ → List ℕ → Written
-writtenOf v room =
-    pick (ltb v (2 ^ 63)) (pick (leb (length (encode v)) (length room)) (Bytes (length (encode v))) (NoRoom (length (encode v)))) TooLarge
+writtenOf v room = pick (leb (length (encode v)) (length room)) (Bytes (length (encode v))) (NoRoom (length (encode v)))
 
 -- the number and then the rest of the room as it was; a refusal leaves all of it as it was
 abbrev pub roomAfter : ℕ → List ℕ → List ℕ
-roomAfter v room = pick (ltb v (2 ^ 63)) (pick (leb (length (encode v)) (length room)) (over (encode v) room) room) room
+roomAfter v room = pick (leb (length (encode v)) (length room)) (over (encode v) room) room

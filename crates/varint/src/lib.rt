@@ -1,19 +1,20 @@
-// Stored numbers of document 01: FTS varints of one to nine bytes, 0 to 2^63 - 1, shortest form only.
+// Stored numbers: FTS varints of one to ten bytes, 0 to 2^64 - 1, shortest form only. A tenth byte is 1.
 //
 //     byte 0      byte 1            last byte
 //     1xxxxxxx    1xxxxxxx    ..    0xxxxxxx     seven bits to a byte, the lowest first
 ghost use mathlib.Core.Path.{_≡_};
 ghost use mathlib.Core.Logic.{_↔_};
-ghost use Prim.Native.Nat.{ℕ, _≤_, _<_, _^_};
+ghost use mathlib.Core.Bool.{true};
+ghost use Prim.Native.Nat.{ℕ, _≤_, _<_};
 ghost use lib.ListN.{length};
 ghost use Rattle.common.specs.Bytes.{over};
-ghost use Rattle.varint.specs.Varint.{maxVarint, encode, StoredAt, readAt, writtenOf, roomAfter};
+ghost use Rattle.varint.specs.Varint.{maxVarint, tenth, encode, StoredAt, readAt, writtenOf, roomAfter};
 
 // The largest number of bytes that a number takes.
-pub const MAX_VARINT: usize = 9;
+pub const MAX_VARINT: usize = 10;
 
-// One above the largest number that can be stored.
-pub const LIMIT: u64 = 0x8000_0000_0000_0000;
+// The weight of a tenth byte.
+const TENTH: u64 = 0x8000_0000_0000_0000;
 
 // The weight of a byte beside that of the one before it: seven bits.
 const BASE: u64 = 128;
@@ -35,8 +36,16 @@ pub enum Written {
     Bytes(usize),
     // How many bytes it needs.
     NoRoom(usize),
-    // The number is 2^63 or more.
-    TooLarge,
+}
+
+// Whether a byte is a tenth one and above 1: the number would have more than 64 bits.
+fn is_over(scale: u64, b: u64) -> bool
+    ensures { λ r. ⌜ ((r ≡ true) ↔ ((scale ≡ tenth) × (1 < b))) ⌝ }
+{
+    if scale == TENTH {
+        return 1 < b;
+    }
+    false
 }
 
 // The number that is stored from the place `at` on, read byte by byte. Open to `opening::front_at`, which reads the first docid
@@ -54,6 +63,9 @@ pub fn read_long(s: &[u8], at: usize) -> Varint
             return Varint::Refused;
         }
         let b = s[i] as u64;
+        if is_over(scale, b) {
+            return Varint::Refused;
+        }
         if b < TOP_BIT {
             if 0 < b {
                 return Varint::Value {
@@ -93,7 +105,7 @@ pub fn read(s: &[u8], at: usize) -> Varint
     read_long(s, at)
 }
 
-// How many bytes a number takes: nine where it is too large to be stored.
+// How many bytes a number takes.
 pub fn size(v: u64) -> usize
     ensures { λ r. ⌜ r ≡ length (encode v) ⌝ }
 {
@@ -108,7 +120,6 @@ pub fn size(v: u64) -> usize
 
 // Puts the number's bytes at the front of a room that holds them.
 fn put(room: &mut [u8], v: u64)
-    requires { ⌜ v < 2 ^ 63 ⌝ }
     requires { ⌜ length (encode v) ≤ length (now room) ⌝ }
     ensures { λ _. ⌜ now (room .exit) ≡ over (encode v) (now (room .entry)) ⌝ }
 {
@@ -122,13 +133,10 @@ fn put(room: &mut [u8], v: u64)
     room[i] = rest as u8;
 }
 
-// Puts the number at the front of the room, or answers what is wrong and leaves the room as it was.
+// Puts the number at the front of the room, or answers how much it needs and leaves the room as it was.
 pub fn write(room: &mut [u8], v: u64) -> Written
     ensures { λ r. ⌜ (r ≡ writtenOf v (now (room .entry))) × (now (room .exit) ≡ roomAfter v (now (room .entry))) ⌝ }
 {
-    if LIMIT <= v {
-        return Written::TooLarge;
-    }
     let n = size(v);
     if room.len() < n {
         return Written::NoRoom(n);

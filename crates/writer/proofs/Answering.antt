@@ -1,64 +1,42 @@
 -- What each test of the writer says of its answer.
 use Prim.Native.Nat.{ℕ, suc, _+_, _≤_, _<_}
-use native.Mathlib.Nat.{not-suc-le-zero}
 use native.Mathlib.Numerals.{add-one}
 use native.Mathlib.Omega.{arith}
-use lib.IntN.{ℤ, pos, negsuc}
-use lib.Signed.{ltZ}
-use mathlib.Core.Path.{_≡_, refl, sym, ap, subst, _∙_}
+use mathlib.Core.Path.{_≡_, refl, sym, ap, _∙_}
 use mathlib.Core.Bool.{Bool, true, false}
 use mathlib.Core.List.{List, [], map}
 use lib.ListN.{length, getD, drop, drop-of-length-le}
 use lib.Seq.{drop-cons}
-use borrow.Author.Tests.{ltb-true, le-leb, lt-leb, le-ltb}
+use borrow.Author.Tests.{le-leb, lt-leb, le-ltb}
 use Rattle.common.specs.Pick.{either}
-use Rattle.common.proofs.Cases.{false-not-true}
 use Rattle.common.specs.Bounds.{maxWord}
 use Rattle.tokenizer.specs.Word.{placesFrom, wordAt, wordsOf, nextWord}
 use Rattle.tokenizer.specs.declared.Word.the-variants.{Found, Overlong}
 use Rattle.tokenizer.proofs.Laws.{found-bounds, found-first, found-short, overlong-bounds, overlong-first, overlong-long}
 use Rattle.tokenizer.proofs.Folds.{word-length}
 use Rattle.offsets.specs.Cut.{cuts}
-use Rattle.writer.specs.Answers.{isDocid, isDocument, hasOverlong, firstOverlong}
+use Rattle.writer.specs.Answers.{isDocument, hasOverlong, firstOverlong}
 use Rattle.writer.proofs.Gathering.{overlong-here}
 
 -- ---- number 1
 
-pub negative : (docid z : ℤ) → z ≡ docid → ltZ z (pos 0) ≡ true → isDocid docid ≡ false
-negative docid z e t = go docid (subst (λ x. ltZ x (pos 0) ≡ true) e t)
-  where
-    go : (z : ℤ) → ltZ z (pos 0) ≡ true → isDocid z ≡ false
-    go (pos d) t = absurd (not-suc-le-zero (ltb-true d 0 t))
-    go (negsuc d) t = refl
+module _ (s es : List ℕ) where
+  pub refused-none : length es ≡ 0 → false ≡ isDocument s es
+  refused-none h = rw (lt-leb 1 (length es) (omega arith)) refl
 
-pub not-negative : (docid z : ℤ) → z ≡ docid → ltZ z (pos 0) ≡ false → isDocid docid ≡ true
-not-negative docid z e t = go docid (subst (λ x. ltZ x (pos 0) ≡ false) e t)
-  where
-    go : (z : ℤ) → ltZ z (pos 0) ≡ false → isDocid z ≡ true
-    go (pos d) t = refl
-    go (negsuc d) t = absurd (false-not-true (sym t))
+  module _ (some : length es ≡ 0 → ⊥) where
+    least : 1 ≤ length es
+    least = omega arith
 
-module _ (docid : ℤ) (s es : List ℕ) where
-  pub refused-docid : isDocid docid ≡ false → false ≡ isDocument docid s es
-  refused-docid e = rw e refl
+    pub refused-many : 16 < length es → false ≡ isDocument s es
+    refused-many h = rw (le-leb 1 (length es) least, lt-leb (length es) 16 h) refl
 
-  module _ (d : isDocid docid ≡ true) where
-    pub refused-none : length es ≡ 0 → false ≡ isDocument docid s es
-    refused-none h = rw (d, lt-leb 1 (length es) (omega arith)) refl
+    module _ (few : length es ≤ 16) where
+      pub refused-long : 4096 < length s → false ≡ isDocument s es
+      refused-long h = rw (le-leb 1 (length es) least, le-leb (length es) 16 few, lt-leb (length s) 4096 h) refl
 
-    module _ (some : length es ≡ 0 → ⊥) where
-      least : 1 ≤ length es
-      least = omega arith
-
-      pub refused-many : 16 < length es → false ≡ isDocument docid s es
-      refused-many h = rw (d, le-leb 1 (length es) least, lt-leb (length es) 16 h) refl
-
-      module _ (few : length es ≤ 16) where
-        pub refused-long : 4096 < length s → false ≡ isDocument docid s es
-        refused-long h = rw (d, le-leb 1 (length es) least, le-leb (length es) 16 few, lt-leb (length s) 4096 h) refl
-
-        pub told-by-ends : length s ≤ 4096 → (r : Bool) → r ≡ cuts s es → r ≡ isDocument docid s es
-        told-by-ends h r e = rw (d, le-leb 1 (length es) least, le-leb (length es) 16 few, le-leb (length s) 4096 h) e
+      pub told-by-ends : length s ≤ 4096 → (r : Bool) → r ≡ cuts s es → r ≡ isDocument s es
+      told-by-ends h r e = rw (le-leb 1 (length es) least, le-leb (length es) 16 few, le-leb (length s) 4096 h) e
 
 -- ---- number 5
 

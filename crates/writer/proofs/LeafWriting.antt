@@ -33,7 +33,7 @@ short-before (t ∷ ts) (suc c) h =
     (λ b. absurd (not-suc-le-zero (subst (λ x. suc c < pick x 0 (suc (firstOverlong ts))) b h)))
     (λ b. short-before ts c (le-of-suc-le-suc (subst (λ x. suc c < pick x 0 (suc (firstOverlong ts))) b h)))
 
-module _ (docid : ℕ) (s es : List ℕ) (w : Writing docid s es) (folded room : List ℕ) (e : folded ≡ over (map fold s) room) (l : length room ≡ 4096) where
+module _ (s es : List ℕ) (w : Writing s es) (folded room : List ℕ) (e : folded ≡ over (map fold s) room) (l : length room ≡ 4096) where
   folded-long : length folded ≡ 4096
   folded-long = ap length e ∙ over-length (map fold s) room (omega (arith, length-map s fold, w .size)) ∙ l
 
@@ -60,8 +60,8 @@ module _ (docid : ℕ) (s es : List ℕ) (w : Writing docid s es) (folded room :
           (sorted-grouped folded (insertRows folded [] (documentRows s es)) (document-sorted s es folded (record { room = room; is = e }) (w .size) (w .few) (w .ends)));
     }
 
-    pub rows-leaf : termsOf folded docid (take n rows) ≡ documentLeaf docid (cut s es)
-    rows-leaf = ap (termsOf folded docid) (g .sorted) ∙ stored-leaf s es folded (record { room = room; is = e }) (w .size) (w .few) (w .ends) docid
+    pub rows-leaf : (docid : ℕ) → termsOf folded docid (take n rows) ≡ documentLeaf docid (cut s es)
+    rows-leaf docid = ap (termsOf folded docid) (g .sorted) ∙ stored-leaf s es folded (record { room = room; is = e }) (w .size) (w .few) (w .ends) docid
 
 -- ---- the answers, where the leaf needs `need` bytes
 

@@ -9,8 +9,9 @@ use lib.Seq.{drop-cons}
 use lib.Dec.{eqb}
 use borrow.Author.Tests.{eq-eqb, ne-eqb}
 use Rattle.common.proofs.Cases.{pick-case}
-use Rattle.varint.specs.Varint.{encode}
+use Rattle.varint.specs.Varint.{encode, maxVarint}
 use Rattle.varint.proofs.Laws.{encode-most}
+use Rattle.doclist.specs.Docid.{bitsOf}
 use Rattle.doclist.specs.Doclist.{encodeAll}
 use Rattle.doclist.proofs.Numbers.{all-append, all-length}
 use Rattle.writer.specs.Rows.{rowColumn, rowPosition, rowKey}
@@ -39,28 +40,28 @@ module _ (last row column position : ℕ) (c : column ≡ rowColumn row) (p : po
   row-other-length opened o n =
       omega (arith, ap length (row-other opened o n), length-append (encode 1 ++ encode column) (encode (position + 2)), length-append (encode 1) (encode column))
 
-row-most : (last row : ℕ) → length (encodeAll (rowNumbers last row)) ≤ 27
+row-most : (last row : ℕ) → length (encodeAll (rowNumbers last row)) ≤ 30
 row-most last row =
-    pick-case (λ vs. length (encodeAll vs) ≤ 27) (eqb (rowColumn row) (rowColumn last)) ((rowPosition row - rowPosition last + 2) ∷ []) (1 ∷ rowColumn row ∷ (rowPosition row + 2) ∷ [])
-    (λ _. omega (arith, length-append (encode (rowPosition row - rowPosition last + 2)) [], encode-most 9 (rowPosition row - rowPosition last + 2)))
+    pick-case (λ vs. length (encodeAll vs) ≤ 30) (eqb (rowColumn row) (rowColumn last)) ((rowPosition row - rowPosition last + 2) ∷ []) (1 ∷ rowColumn row ∷ (rowPosition row + 2) ∷ [])
+    (λ _. omega (arith, length-append (encode (rowPosition row - rowPosition last + 2)) [], encode-most maxVarint (rowPosition row - rowPosition last + 2)))
     (λ _. omega (
       arith,
       length-append (encode 1) (encode (rowColumn row) ++ (encode (rowPosition row + 2) ++ [])),
       length-append (encode (rowColumn row)) (encode (rowPosition row + 2) ++ []),
       length-append (encode (rowPosition row + 2)) [],
-      encode-most 9 1,
-      encode-most 9 (rowColumn row),
-      encode-most 9 (rowPosition row + 2),
+      encode-most maxVarint 1,
+      encode-most maxVarint (rowColumn row),
+      encode-most maxVarint (rowPosition row + 2),
     ))
 
 -- ---- rows
 
-numbers-most : (last : ℕ) (rows : List ℕ) → length (encodeAll (numbersFrom last rows)) ≤ 9 + 27 * length rows
-numbers-most last [] = omega (arith, length-append (encode 0) [], encode-most 9 0)
+numbers-most : (last : ℕ) (rows : List ℕ) → length (encodeAll (numbersFrom last rows)) ≤ 10 + 30 * length rows
+numbers-most last [] = omega (arith, length-append (encode 0) [], encode-most maxVarint 0)
 numbers-most last (r ∷ rows) = omega (arith, all-length (rowNumbers last r) (numbersFrom r rows), row-most last r, numbers-most r rows)
 
-pub list-most : (docid : ℕ) (rows : List ℕ) → length (listBytes docid rows) ≤ 18 + 27 * length rows
-list-most docid rows = omega (arith, length-append (encode docid) (encodeAll (numbersFrom 0 rows)), encode-most 9 docid, numbers-most 0 rows)
+pub list-most : (docid : ℕ) (rows : List ℕ) → length (listBytes docid rows) ≤ 20 + 30 * length rows
+list-most docid rows = omega (arith, length-append (encode (bitsOf docid)) (encodeAll (numbersFrom 0 rows)), encode-most maxVarint (bitsOf docid), numbers-most 0 rows)
 
 module _ (last : ℕ) (rows : List ℕ) (i : ℕ) where
   pub rises-end : length rows ≤ i → encodeAll (numbersFrom last (drop i rows)) ≡ encode 0

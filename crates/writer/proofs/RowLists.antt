@@ -16,6 +16,7 @@ use Rattle.common.proofs.Members.{Each}
 use Rattle.tokenizer.specs.Word.{Place, places, wordAt}
 use Rattle.offsets.specs.Cut.{endsFrom, cutFrom, cut}
 use Rattle.offsets.proofs.Cuts.{ends-step}
+use Rattle.doclist.specs.Docid.{bitsOf}
 use Rattle.doclist.specs.Doclist.{Column, positionNumbers, announced, columnNumbers, encodeAll, encodeList}
 use Rattle.document.specs.Document.{keepIf, positionsFrom, withColumn, columnsFrom, documentTerm}
 use Rattle.writer.specs.Rows.{rowOf, rowColumn, rowPosition, placeRows, columnRows, rowsFrom, documentRows, sameWord}
@@ -184,7 +185,5 @@ module _ (s folded : List ℕ) (f : FoldedText s folded) (small : length s ≤ 4
   pub rows-list : (es : List ℕ) (docid : ℕ) → length es ≤ 16 → endsFrom 0 (length s) es ≡ true
       → listBytes docid (kept folded w (documentRows s es)) ≡ encodeList (documentTerm docid (cut s es) w .entries)
   rows-list es docid h t =
-      let z : docid ≡ docid - 0 = omega arith in
-      ap (λ l. encodeAll (docid ∷ l)) (columns-numbers 0 0 0 es (omega arith) t (inr (refl, refl)))
-      ∙ ap (λ d. encodeAll (d ∷ (columnNumbers (columnsFrom 0 w (cut s es)) ++ (0 ∷ [])))) z
-      ∙ sym (append-nil (encodeAll ((docid - 0) ∷ (columnNumbers (columnsFrom 0 w (cut s es)) ++ (0 ∷ [])))))
+      ap (λ l. encodeAll (bitsOf docid ∷ l)) (columns-numbers 0 0 0 es (omega arith) t (inr (refl, refl)))
+      ∙ sym (append-nil (encodeAll (bitsOf docid ∷ (columnNumbers (columnsFrom 0 w (cut s es)) ++ (0 ∷ [])))))

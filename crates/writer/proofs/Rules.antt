@@ -1,18 +1,15 @@
 -- The tests of the writer say document 01's rules, and so do its answers: each is the first refusal that is due
 -- (`write-is`, `write-once`), and what that comes to in the document's words (`answers`).
-use Prim.Native.Nat.{ℕ, zero, suc, _+_, _^_, _≤_, _<_}
+use Prim.Native.Nat.{ℕ, zero, suc, _+_, _≤_, _<_}
 use native.Mathlib.Nat.{not-suc-le-zero, le-of-suc-le-suc}
 use native.Mathlib.Omega.{arith}
-use lib.IntN.{ℤ, pos, negsuc, natAbs}
-use lib.Signed.{nonNeg}
-use mir.Val.{SFits}
-use mir.Syntax.{w64}
+use lib.IntN.{ℤ}
 use mathlib.Core.Path.{_≡_, refl, sym, ap, subst, _∙_}
 use mathlib.Core.Logic.{_↔_, inl, inr}
 use mathlib.Core.Bool.{true, false}
 use mathlib.Core.List.{List, [], _∷_, _++_}
 use lib.ListN.{length, getD, replicate}
-use lib.Dec.{T, ltb, leb}
+use lib.Dec.{ltb, leb}
 use borrow.Author.Tests.{ltb-true, ltb-false, leb-true, leb-false, lt-ltb, le-ltb, le-leb}
 use Rattle.common.specs.Pick.{pick, both, either}
 use Rattle.common.specs.Bytes.{within}
@@ -23,43 +20,31 @@ use Rattle.common.specs.Bounds.{maxWord}
 use Rattle.tokenizer.specs.Word.{wordsOf}
 use Rattle.offsets.specs.Cut.{cuts, cut}
 use Rattle.offsets.proofs.Cuts.{cuts-rules, rules-cuts, length-cut}
+use Rattle.doclist.specs.Docid.{keyOf}
 use Rattle.document.specs.Document.{documentLeaf}
 use Rattle.writer.specs.declared.Answer.{Answer}
 use Rattle.writer.specs.declared.Answer.the-variants.{Written, Shape, Overlong, Room}
-use Rattle.writer.specs.Answers.{numbersOf, isDocid, docidOf, isDocument, DocumentShape, hasOverlong, overlongRefusals, firstOverlong, IsOverlong, AllShort, Writing, fittedAnswer, needOf, refusals, WriteIs, answerOf, held, roomOf, WriteExactly}
+use Rattle.writer.specs.Answers.{numbersOf, isDocument, DocumentShape, hasOverlong, overlongRefusals, firstOverlong, IsOverlong, AllShort, Writing, fittedAnswer, needOf, refusals, WriteIs, answerOf, held, roomOf, WriteExactly}
 use Rattle.writer.proofs.LeafWriting.{short-before}
 
 -- ---- the shape
 
-docid-told : (docid : ℤ) → isDocid docid ≡ true → docid ≡ pos (docidOf docid)
-docid-told (pos d) t = refl
-docid-told (negsuc d) t = false-not-true t
-
-told-docid : (docid : ℤ) → docid ≡ pos (docidOf docid) → isDocid docid ≡ true
-told-docid docid e = ap isDocid e
-
-pub shape-docid : (docid : ℤ) (s es : List ℕ) → isDocument docid s es ≡ true → isDocid docid ≡ true
-shape-docid docid s es t = both-left (isDocid docid) (both (within 1 16 (length es)) (both (leb (length s) 4096) (cuts s es))) t
-
-pub shape-rules : (docid : ℤ) (s es : List ℕ) → isDocument docid s es ≡ true → DocumentShape docid s es
-shape-rules docid s es t =
-    let a = both-right (isDocid docid) (both (within 1 16 (length es)) (both (leb (length s) 4096) (cuts s es))) t in
-    let w = both-left (within 1 16 (length es)) (both (leb (length s) 4096) (cuts s es)) a in
-    let b = both-right (within 1 16 (length es)) (both (leb (length s) 4096) (cuts s es)) a in
+pub shape-rules : (s es : List ℕ) → isDocument s es ≡ true → DocumentShape s es
+shape-rules s es t =
+    let w = both-left (within 1 16 (length es)) (both (leb (length s) 4096) (cuts s es)) t in
+    let b = both-right (within 1 16 (length es)) (both (leb (length s) 4096) (cuts s es)) t in
     record {
-      docid-range = docid-told docid (shape-docid docid s es t);
       ends = cuts-rules s es (both-right (leb (length s) 4096) (cuts s es) b);
       some = leb-true 1 (length es) (both-left (leb 1 (length es)) (leb (length es) 16) w);
       few = leb-true (length es) 16 (both-right (leb 1 (length es)) (leb (length es) 16) w);
       size = leb-true (length s) 4096 (both-left (leb (length s) 4096) (cuts s es) b);
     }
 
-pub rules-shape : (docid : ℤ) (s es : List ℕ) → DocumentShape docid s es → isDocument docid s es ≡ true
-rules-shape docid s es h =
-    both-true (isDocid docid) (both (within 1 16 (length es)) (both (leb (length s) 4096) (cuts s es))) (told-docid docid (h .docid-range))
-    (both-true (within 1 16 (length es)) (both (leb (length s) 4096) (cuts s es))
+pub rules-shape : (s es : List ℕ) → DocumentShape s es → isDocument s es ≡ true
+rules-shape s es h =
+    both-true (within 1 16 (length es)) (both (leb (length s) 4096) (cuts s es))
     (both-true (leb 1 (length es)) (leb (length es) 16) (le-leb 1 (length es) (h .some)) (le-leb (length es) 16 (h .few)))
-    (both-true (leb (length s) 4096) (cuts s es) (le-leb (length s) 4096 (h .size)) (rules-cuts s es (h .ends))))
+    (both-true (leb (length s) 4096) (cuts s es) (le-leb (length s) 4096 (h .size)) (rules-cuts s es (h .ends)))
 
 -- ---- words over 64 bytes
 
@@ -157,7 +142,7 @@ with-numbers (Room n) = refl
 -- ---- the answers
 
 module _ (docid : ℤ) (s es : List ℕ) (room : ℕ) where
-  answers-shape : (DocumentShape docid s es → ⊥) → WriteExactly docid s es room Shape
+  answers-shape : (DocumentShape s es → ⊥) → WriteExactly docid s es room Shape
   answers-shape n = record {
     shape = (λ e. n, λ _. refl);
     overlong = λ c. (λ e. absurd (omega (arith, ap (λ (q : Answer). numbersOf q .number) e)), λ k. absurd (n (k .0)));
@@ -165,7 +150,7 @@ module _ (docid : ℤ) (s es : List ℕ) (room : ℕ) where
     written = λ m. (λ e. absurd (omega (arith, ap (λ (q : Answer). numbersOf q .number) e)), λ k. absurd (n (k .0)));
   }
 
-  module _ (h : DocumentShape docid s es) where
+  module _ (h : DocumentShape s es) where
     answers-overlong : firstOverlong (cut s es) < length (cut s es) → WriteExactly docid s es room (Overlong (firstOverlong (cut s es)))
     answers-overlong l = record {
       shape = (λ e. absurd (omega (arith, ap (λ (q : Answer). numbersOf q .number) e)), λ n. absurd (n h));
@@ -201,15 +186,15 @@ module _ (docid : ℤ) (s es : List ℕ) (room : ℕ) where
   pub answers : WriteExactly docid s es room (answerOf docid s es room)
   answers =
       let n = length-cut s es in
-      bool-case (isDocument docid s es)
-      (λ t. let h = shape-rules docid s es t in
+      bool-case (isDocument s es)
+      (λ t. let h = shape-rules s es t in
       bool-case (ltb (firstOverlong (cut s es)) (length es))
       (λ u. rw (t, u) (answers-overlong h (omega (arith, ltb-true (firstOverlong (cut s es)) (length es) u))))
       (λ u. let a : firstOverlong (cut s es) ≡ length (cut s es) = omega (arith, ltb-false (firstOverlong (cut s es)) (length es) u, first-most (cut s es)) in
       bool-case (leb (needOf docid s es) room)
       (λ v. rw (t, u, v) (answers-written h a (leb-true (needOf docid s es) room v)))
       (λ v. rw (t, u, v) (answers-room h a (leb-false (needOf docid s es) room v)))))
-      (λ t. rw t (answers-shape (λ h. false-not-true (sym t ∙ rules-shape docid s es h))))
+      (λ t. rw t (answers-shape (λ h. false-not-true (sym t ∙ rules-shape s es h))))
 
 -- ---- the first refusal that is due
 
@@ -248,15 +233,15 @@ module _ (docid : ℤ) (s es : List ℕ) (room : ℕ) where
   pub write-is : WriteIs docid s es room (answerOf docid s es room)
   write-is =
       let n = length-cut s es in
-      bool-case (isDocument docid s es)
-      (λ t. let h = shape-rules docid s es t in
+      bool-case (isDocument s es)
+      (λ t. let h = shape-rules s es t in
       bool-case (ltb (firstOverlong (cut s es)) (length es))
       (λ u. rw (t, u) (inr (h, first-long _ _ 0 (firstOverlong (cut s es)) (cut s es) (omega arith) (omega (arith, ltb-true (firstOverlong (cut s es)) (length es) u)))))
       (λ u. let a : firstOverlong (cut s es) ≡ length (cut s es) = omega (arith, ltb-false (firstOverlong (cut s es)) (length es) u, first-most (cut s es)) in
       bool-case (leb (needOf docid s es) room)
       (λ v. rw (t, u, v) (inr (h, none-long _ _ 0 (cut s es) _ a (inr (leb-true (needOf docid s es) room v, refl)))))
       (λ v. rw (t, u, v) (inr (h, none-long _ _ 0 (cut s es) _ a (inl (leb-false (needOf docid s es) room v, refl)))))))
-      (λ t. rw t (inl (λ h. false-not-true (sym t ∙ rules-shape docid s es h), refl)))
+      (λ t. rw t (inl (λ h. false-not-true (sym t ∙ rules-shape s es h), refl)))
 
   -- and no other answer is
   pub write-once : (a : Answer) → WriteIs docid s es room a → answerOf docid s es room ≡ a
@@ -265,52 +250,32 @@ module _ (docid : ℤ) (s es : List ℕ) (room : ℕ) where
 
 -- ---- what the function returns
 
--- the docid, as the code hands it on
-pub docid-cast : (docid z : ℤ) → z ≡ docid → isDocid docid ≡ true → natAbs z ≡ docidOf docid
-docid-cast docid z e t = ap natAbs e ∙ go docid t
-  where
-    go : (d : ℤ) → isDocid d ≡ true → natAbs d ≡ docidOf d
-    go (pos d) t = refl
-    go (negsuc d) t = false-not-true t
-
-pub docid-not-negative : (docid z : ℤ) → z ≡ docid → isDocid docid ≡ true → T (nonNeg z)
-docid-not-negative docid z e t = subst (λ x. T (nonNeg x)) (sym e) (go docid t)
-  where
-    go : (d : ℤ) → isDocid d ≡ true → T (nonNeg d)
-    go (pos d) t = tt
-    go (negsuc d) t = false-not-true t
-
-docid-small : (docid : ℤ) → SFits w64 docid → docidOf docid < 2 ^ 63
-docid-small (pos d) f = f .sfits
-docid-small (negsuc d) f = omega arith
-
 module _ (docid : ℤ) (s es : List ℕ) (size : ℕ) where
   -- what the contract asks of an answer and of the room
   abbrev Promise : Answer → List ℕ → Type 0
   Promise r after = (r ≡ answerOf docid s es size) × ((after ≡ roomOf docid s es size) × ((a : Answer) → (r ≡ a) ↔ WriteIs docid s es size a))
 
-  kept : (r : Answer) (after : List ℕ) → r ≡ answerOf docid s es size → after ≡ held size (documentLeaf (docidOf docid) (cut s es)) r → Promise r after
+  kept : (r : Answer) (after : List ℕ) → r ≡ answerOf docid s es size → after ≡ held size (documentLeaf (keyOf docid) (cut s es)) r → Promise r after
   kept r after e q = (
     e,
     (
-      q ∙ ap (held size (documentLeaf (docidOf docid) (cut s es))) e,
+      q ∙ ap (held size (documentLeaf (keyOf docid) (cut s es))) e,
       λ a. (λ p. subst (WriteIs docid s es size) (sym e ∙ p) (write-is docid s es size), λ c. e ∙ write-once docid s es size a c),
     ),
   )
 
-  pub kept-shape : isDocument docid s es ≡ false → (after : List ℕ) → after ≡ replicate size 0 → Promise Shape after
+  pub kept-shape : isDocument s es ≡ false → (after : List ℕ) → after ≡ replicate size 0 → Promise Shape after
   kept-shape t after z = kept Shape after (rw t refl) z
 
-  module _ (t : isDocument docid s es ≡ true) (n : ℕ) (e : n ≡ firstOverlong (cut s es)) where
+  module _ (t : isDocument s es ≡ true) (n : ℕ) (e : n ≡ firstOverlong (cut s es)) where
     pub kept-overlong : n < length es → (after : List ℕ) → after ≡ replicate size 0 → Promise (Overlong n) after
     kept-overlong h after z = kept (Overlong n) after (rw (t, lt-ltb (firstOverlong (cut s es)) (length es) (omega arith)) (ap Overlong e)) z
 
     module _ (h : length es ≤ n) where
-      pub writing : SFits w64 docid → (d : ℕ) → d ≡ docidOf docid → Writing d s es
-      writing f d q =
-          let k = shape-rules docid s es t in
+      pub writing : Writing s es
+      writing =
+          let k = shape-rules s es t in
           record {
-            docid-range = subst (λ x. x < 2 ^ 63) (sym q) (docid-small docid f);
             ends = k .ends;
             some = k .some;
             few = k .few;
@@ -318,7 +283,7 @@ module _ (docid : ℤ) (s es : List ℕ) (size : ℕ) where
             short = omega (arith, first-most (cut s es), length-cut s es);
           }
 
-      pub kept-leaf : (d : ℕ) → d ≡ docidOf docid → (m : ℕ) → m ≡ size → (r : Answer) (after : List ℕ)
+      pub kept-leaf : (d : ℕ) → d ≡ keyOf docid → (m : ℕ) → m ≡ size → (r : Answer) (after : List ℕ)
           → (r ≡ fittedAnswer (length (documentLeaf d (cut s es))) m) × (after ≡ held m (documentLeaf d (cut s es)) r) → Promise r after
       kept-leaf d q m k r after w =
           kept r after
@@ -326,4 +291,4 @@ module _ (docid : ℤ) (s es : List ℕ) (size : ℕ) where
           ∙ ap (λ x. fittedAnswer (length (documentLeaf x (cut s es))) m) q
           ∙ ap (fittedAnswer (needOf docid s es)) k
           ∙ sym (rw (t, le-ltb (firstOverlong (cut s es)) (length es) (omega arith)) refl))
-          (w .1 ∙ ap (λ x. held m (documentLeaf x (cut s es)) r) q ∙ ap (λ x. held x (documentLeaf (docidOf docid) (cut s es)) r) k)
+          (w .1 ∙ ap (λ x. held m (documentLeaf x (cut s es)) r) q ∙ ap (λ x. held x (documentLeaf (keyOf docid) (cut s es)) r) k)

@@ -12,7 +12,7 @@ use Rattle.common.specs.Bytes.{span}
 use Rattle.common.proofs.Cases.{bool-case}
 use Rattle.common.proofs.Same.{same-true, same-refl}
 use Rattle.common.proofs.Runs.{span-most}
-use Rattle.varint.specs.Varint.{encode}
+use Rattle.varint.specs.Varint.{encode, maxVarint}
 use Rattle.varint.proofs.Laws.{encode-most}
 use Rattle.leaf.specs.Leaf.{shared, sized}
 use Rattle.leaf.proofs.Words.{shared-most}
@@ -55,7 +55,7 @@ module _ (before w : List ℕ) (docid : ℕ) (rows : List ℕ) where
   pub term-length : length (termOf before w docid rows) ≡ length (wordBytes before w) + length (sized (listBytes docid rows))
   term-length = length-append (wordBytes before w) (sized (listBytes docid rows))
 
-  pub term-most : length w ≤ 4096 → length (termOf before w docid rows) ≤ 4141 + 27 * length rows
+  pub term-most : length w ≤ 4096 → length (termOf before w docid rows) ≤ 4146 + 30 * length rows
   term-most h =
       omega (
         arith,
@@ -63,9 +63,9 @@ module _ (before w : List ℕ) (docid : ℕ) (rows : List ℕ) where
         word-sized before w,
         postings-length docid rows,
         list-most docid rows,
-        encode-most 9 (shared before w),
-        encode-most 9 (length w - shared before w),
-        encode-most 9 (length (listBytes docid rows)),
+        encode-most maxVarint (shared before w),
+        encode-most maxVarint (length w - shared before w),
+        encode-most maxVarint (length (listBytes docid rows)),
       )
 
   -- its size, added up
@@ -138,7 +138,7 @@ unfolding termsFrom
 terms-cons most folded docid last r rows = refl
 
 -- a bound that keeps the sums small
-pub terms-most : (most : ℕ) (folded : List ℕ) (docid last : ℕ) (rows : List ℕ) → length folded ≤ 4096 → length (termsFrom most folded docid last rows) ≤ 4168 * length rows
+pub terms-most : (most : ℕ) (folded : List ℕ) (docid last : ℕ) (rows : List ℕ) → length folded ≤ 4096 → length (termsFrom most folded docid last rows) ≤ 4176 * length rows
 unfolding termsFrom
 terms-most zero folded docid last rows h = omega arith
 terms-most (suc most) folded docid last [] h = omega arith

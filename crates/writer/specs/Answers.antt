@@ -1,10 +1,10 @@
 -- What the writer answers, and what its room holds then (document 01, "Numbers of the answers"). The checks 1, 5 and 4
 -- come in this order; every refusal leaves the room all zeros, and acceptance the leaf and then zeros.
-use Prim.Native.Nat.{ℕ, suc, _-_, _^_, _≤_, _<_}
-use lib.IntN.{ℤ, pos, negsuc}
+use Prim.Native.Nat.{ℕ, suc, _-_, _≤_, _<_}
+use lib.IntN.{ℤ}
 use mathlib.Core.Path.{_≡_}
 use mathlib.Core.Logic.{_↔_}
-use mathlib.Core.Bool.{Bool, true, false}
+use mathlib.Core.Bool.{Bool, false}
 use mathlib.Core.List.{List, [], _∷_, _++_}
 use lib.ListN.{length, getD, replicate}
 use lib.Dec.{ltb, leb}
@@ -14,6 +14,7 @@ use Rattle.common.specs.Refusals.{Numbers, numbers, Refusal, FirstDue, shapeRef
 use Rattle.common.specs.Bounds.{maxWord, maxColumns}
 use Rattle.tokenizer.specs.Word.{wordsOf}
 use Rattle.offsets.specs.Cut.{cuts, Cuts, cut}
+use Rattle.doclist.specs.Docid.{keyOf}
 use Rattle.document.specs.Document.{HasWordAt, documentLeaf, maxDocument}
 use Rattle.writer.specs.declared.Answer.{Answer}
 use Rattle.writer.specs.declared.Answer.the-variants.{Written, Shape, Overlong, Room}
@@ -28,22 +29,12 @@ numbersOf (Overlong c) = numbers 5 c
 
 -- ---- 1: the shape
 
-abbrev pub isDocid : ℤ → Bool
-isDocid (pos d) = true
-isDocid (negsuc d) = false
-
--- the docid as definitions count it
-abbrev pub docidOf : ℤ → ℕ
-docidOf (pos d) = d
-docidOf (negsuc d) = 0
-
--- whether number 1 is not due to a docid, the texts and their ends
-abbrev pub isDocument : ℤ → List ℕ → List ℕ → Bool
-isDocument docid s es = both (isDocid docid) (both (within 1 maxColumns (length es)) (both (leb (length s) maxDocument) (cuts s es)))
+-- whether number 1 is not due to the texts and their ends; it is never due to a docid
+abbrev pub isDocument : List ℕ → List ℕ → Bool
+isDocument s es = both (within 1 maxColumns (length es)) (both (leb (length s) maxDocument) (cuts s es))
 
 -- the same, rule by rule
-pub record DocumentShape (docid : ℤ) (s es : List ℕ) : Type 0 where
-  pub docid-range : docid ≡ pos (docidOf docid)
+pub record DocumentShape (s es : List ℕ) : Type 0 where
   pub ends : Cuts s es
   pub some : 1 ≤ length es
   pub few : length es ≤ maxColumns
@@ -88,9 +79,8 @@ pub record IsOverlong (texts : List (List ℕ)) (c : ℕ) : Type 0 where
 abbrev pub AllShort : List (List ℕ) → Type 0
 AllShort texts = (w : List ℕ) (c p : ℕ) → HasWordAt texts w c p → length w ≤ maxWord
 
--- what writing the leaf asks: the shape, the docid's range, and no word over 64 bytes
-pub record Writing (docid : ℕ) (s es : List ℕ) : Type 0 where
-  pub docid-range : docid < 2 ^ 63
+-- what writing the leaf asks: the shape, and no word over 64 bytes
+pub record Writing (s es : List ℕ) : Type 0 where
   pub ends : Cuts s es
   pub some : 1 ≤ length es
   pub few : length es ≤ maxColumns
@@ -106,11 +96,11 @@ fittedAnswer need room = pick (leb need room) (Written need) (Room need)
 
 -- how many bytes the leaf takes
 abbrev pub needOf : ℤ → List ℕ → List ℕ → ℕ
-needOf docid s es = length (documentLeaf (docidOf docid) (cut s es))
+needOf docid s es = length (documentLeaf (keyOf docid) (cut s es))
 
 -- "the writer 1, 5, 4"
 abbrev pub refusals : ℤ → List ℕ → List ℕ → ℕ → List Refusal
-refusals docid s es room = shapeRefusal (DocumentShape docid s es) ∷ (overlongRefusals 0 (cut s es) ++ roomRefusal room (needOf docid s es) ∷ [])
+refusals docid s es room = shapeRefusal (DocumentShape s es) ∷ (overlongRefusals 0 (cut s es) ++ roomRefusal room (needOf docid s es) ∷ [])
 
 -- what an answer claims
 abbrev pub WriteIs : ℤ → List ℕ → List ℕ → ℕ → Answer → Type 0
@@ -120,7 +110,7 @@ WriteIs docid s es room r = FirstDue (refusals docid s es room) (numbers 0 (need
 
 abbrev pub answerOf : ℤ → List ℕ → List ℕ → ℕ → Answer
 answerOf docid s es room =
-    pick (isDocument docid s es)
+    pick (isDocument s es)
     (pick (ltb (firstOverlong (cut s es)) (length es)) (Overlong (firstOverlong (cut s es)))
     (fittedAnswer (needOf docid s es) room))
     Shape
@@ -133,12 +123,12 @@ held room leaf (Overlong c) = replicate room 0
 held room leaf (Room n) = replicate room 0
 
 abbrev pub roomOf : ℤ → List ℕ → List ℕ → ℕ → List ℕ
-roomOf docid s es room = held room (documentLeaf (docidOf docid) (cut s es)) (answerOf docid s es room)
+roomOf docid s es room = held room (documentLeaf (keyOf docid) (cut s es)) (answerOf docid s es room)
 
 -- ---- the same, answer by answer
 
 pub record WriteExactly (docid : ℤ) (s es : List ℕ) (room : ℕ) (r : Answer) : Type 0 where
-  pub shape : (r ≡ Shape) ↔ (DocumentShape docid s es → ⊥)
-  pub overlong : (c : ℕ) → (r ≡ Overlong c) ↔ (DocumentShape docid s es × IsOverlong (cut s es) c)
-  pub no-room : (n : ℕ) → (r ≡ Room n) ↔ (DocumentShape docid s es × AllShort (cut s es) × (n ≡ needOf docid s es) × (room < n))
-  pub written : (n : ℕ) → (r ≡ Written n) ↔ (DocumentShape docid s es × AllShort (cut s es) × (n ≡ needOf docid s es) × (n ≤ room))
+  pub shape : (r ≡ Shape) ↔ (DocumentShape s es → ⊥)
+  pub overlong : (c : ℕ) → (r ≡ Overlong c) ↔ (DocumentShape s es × IsOverlong (cut s es) c)
+  pub no-room : (n : ℕ) → (r ≡ Room n) ↔ (DocumentShape s es × AllShort (cut s es) × (n ≡ needOf docid s es) × (room < n))
+  pub written : (n : ℕ) → (r ≡ Written n) ↔ (DocumentShape s es × AllShort (cut s es) × (n ≡ needOf docid s es) × (n ≤ room))

@@ -8,6 +8,7 @@ use lib.Dec.{eqb}
 use Rattle.common.specs.Pick.{pick}
 use Rattle.common.specs.Bytes.{span}
 use Rattle.varint.specs.Varint.{encode}
+use Rattle.doclist.specs.Docid.{bitsOf}
 use Rattle.doclist.specs.Doclist.{encodeAll}
 use Rattle.leaf.specs.Leaf.{shared, sized}
 use Rattle.writer.specs.Rows.{AllInside, rowColumn, rowPosition, rowKey, rowWord, sameWord}
@@ -24,8 +25,9 @@ abbrev pub numbersFrom : ℕ → List ℕ → List ℕ
 numbersFrom last [] = 0 ∷ []
 numbersFrom last (r ∷ rows) = rowNumbers last r ++ numbersFrom r rows
 
+-- the 64 bits of the docid, which stands as its key, and the rows
 abbrev pub listBytes : ℕ → List ℕ → List ℕ
-listBytes docid rows = encodeAll (docid ∷ numbersFrom 0 rows)
+listBytes docid rows = encodeAll (bitsOf docid ∷ numbersFrom 0 rows)
 
 -- rows in the order of the document
 abbrev pub Rises : ℕ → List ℕ → Type 0

@@ -21,7 +21,7 @@ pub const MAX_DOCUMENT: usize = 4096;
 pub enum Answer {
     // The leaf stands in the room: how many bytes it took.
     Written(usize),
-    // The ends, the number of columns, the size of the texts or the docid is wrong.
+    // The ends, the number of columns or the size of the texts is wrong.
     Shape,
     // A word is over 64 bytes: the first column that has one.
     Overlong(usize),
@@ -41,12 +41,9 @@ fn clear(room: &mut [u8])
 }
 
 // Whether number 1 is not due.
-fn is_document(docid: i64, texts: &[u8], ends: &[u32]) -> bool
-    ensures { λ r. ⌜ r ≡ isDocument docid (now (texts .entry)) (now (ends .entry)) ⌝ }
+fn is_document(texts: &[u8], ends: &[u32]) -> bool
+    ensures { λ r. ⌜ r ≡ isDocument (now (texts .entry)) (now (ends .entry)) ⌝ }
 {
-    if docid < 0 {
-        return false;
-    }
     if ends.len() == 0 {
         return false;
     }
@@ -94,9 +91,9 @@ fn first_overlong(texts: &[u8], ends: &[u32]) -> usize
     i
 }
 
-// Writes the leaf of a document into a room of zeros.
+// Writes the leaf of a document into a room of zeros; the docid comes as its key.
 fn write_leaf(docid: u64, texts: &[u8], ends: &[u32], room: &mut [u8]) -> Answer
-    requires { ⌜ Writing docid (now texts) (now ends) × (now room ≡ replicate (length (now room)) 0) ⌝ }
+    requires { ⌜ Writing (now texts) (now ends) × (now room ≡ replicate (length (now room)) 0) ⌝ }
     ensures { λ r. ⌜ r ≡ fittedAnswer (length (documentLeaf docid (cut (now (texts .entry)) (now (ends .entry))))) (length (now (room .entry))) ⌝ }
     ensures { λ r. ⌜ now (room .exit) ≡ held (length (now (room .entry))) (documentLeaf docid (cut (now (texts .entry)) (now (ends .entry)))) r ⌝ }
 {
@@ -120,12 +117,12 @@ pub fn write(docid: i64, texts: &[u8], ends: &[u32], room: &mut [u8]) -> Answer
     ensures exact { λ r. ⌜ ((a : Answer) → (r ≡ a) ↔ WriteIs docid (now (texts .entry)) (now (ends .entry)) (length (now (room .entry))) a) ⌝ }
 {
     clear(room);
-    if !is_document(docid, texts, ends) {
+    if !is_document(texts, ends) {
         return Answer::Shape;
     }
     let overlong = first_overlong(texts, ends);
     if overlong < ends.len() {
         return Answer::Overlong(overlong);
     }
-    write_leaf(docid as u64, texts, ends, room)
+    write_leaf(doclist::keys::key_of(docid), texts, ends, room)
 }

@@ -5,10 +5,12 @@
 // The first word's prefix is the leaf's height: both are the number 0. A posting list has one entry:
 //
 //     docid   for each column: [1, column]   position + 2, difference + 2, ..   0
+//
+// The docid comes as its key and is stored as its 64 bits.
 use crate::rows;
 use crate::words;
 ghost use mathlib.Core.Path.{_≡_};
-ghost use Prim.Native.Nat.{_^_, _≤_, _<_};
+ghost use Prim.Native.Nat.{_≤_};
 ghost use lib.ListN.{length};
 ghost use Rattle.common.specs.Bytes.{span, over};
 ghost use Rattle.varint.specs.Varint.{encode};
@@ -50,7 +52,8 @@ fn list_size(rows: &[u64], docid: u64) -> usize
     requires { ⌜ Rises 0 (now rows) × (length (now rows) ≤ 4096) ⌝ }
     ensures { λ r. ⌜ r ≡ length (listBytes docid (now (rows .entry))) ⌝ }
 {
-    let mut total = varint::size(docid);
+    let bits = doclist::keys::bits_of(docid);
+    let mut total = varint::size(bits);
     let mut last: u64 = 0;
     let mut i: usize = 0;
     while i < rows.len() {
@@ -63,7 +66,7 @@ fn list_size(rows: &[u64], docid: u64) -> usize
 
 // Puts a number at the front of the room; how many bytes it took.
 fn put_number(out: &mut [u8], v: u64) -> usize
-    requires { ⌜ (v < 2 ^ 63) × (length (encode v) ≤ length (now out)) ⌝ }
+    requires { ⌜ length (encode v) ≤ length (now out) ⌝ }
     ensures { λ r. ⌜ (r ≡ length (encode v)) × (now (out .exit) ≡ over (encode v) (now (out .entry))) ⌝ }
 {
     varint::write(out, v);
@@ -87,10 +90,11 @@ fn put_row(out: &mut [u8], last: u64, row: u64) -> usize
 
 // Puts a posting list at the front of the room.
 fn put_list(out: &mut [u8], rows: &[u64], docid: u64) -> usize
-    requires { ⌜ (docid < 2 ^ 63) × Rises 0 (now rows) × (length (listBytes docid (now rows)) ≤ length (now out)) ⌝ }
+    requires { ⌜ Rises 0 (now rows) × (length (listBytes docid (now rows)) ≤ length (now out)) ⌝ }
     ensures { λ r. ⌜ (r ≡ length (listBytes docid (now (rows .entry)))) × (now (out .exit) ≡ over (listBytes docid (now (rows .entry))) (now (out .entry))) ⌝ }
 {
-    let mut at = put_number(out, docid);
+    let bits = doclist::keys::bits_of(docid);
+    let mut at = put_number(out, bits);
     let mut last: u64 = 0;
     let mut i: usize = 0;
     while i < rows.len() {
@@ -150,7 +154,7 @@ fn put_word(out: &mut [u8], before: &[u8], w: &[u8]) -> usize
 
 // Puts a posting list after its length at the front of the room.
 fn put_postings(out: &mut [u8], rows: &[u64], docid: u64) -> usize
-    requires { ⌜ (docid < 2 ^ 63) × Rises 0 (now rows) × (length (now rows) ≤ 4096) ⌝ }
+    requires { ⌜ Rises 0 (now rows) × (length (now rows) ≤ 4096) ⌝ }
     requires { ⌜ length (sized (listBytes docid (now rows))) ≤ length (now out) ⌝ }
     ensures { λ r. ⌜ (r ≡ length (sized (listBytes docid (now (rows .entry))))) × (now (out .exit) ≡ over (sized (listBytes docid (now (rows .entry)))) (now (out .entry))) ⌝ }
 {
@@ -178,7 +182,7 @@ pub(crate) fn terms_size(folded: &[u8], rows: &[u64], docid: u64) -> usize
 
 // Puts all terms into the room: each word goes to the room that is still free, and what stands before it is not touched.
 pub(crate) fn put_terms(out: &mut [u8], folded: &[u8], rows: &[u64], docid: u64)
-    requires { ⌜ (docid < 2 ^ 63) × Table (now folded) (now rows) × (length (termsOf (now folded) docid (now rows)) ≤ length (now out)) ⌝ }
+    requires { ⌜ Table (now folded) (now rows) × (length (termsOf (now folded) docid (now rows)) ≤ length (now out)) ⌝ }
     ensures { λ _. ⌜ now (out .exit) ≡ over (termsOf (now (folded .entry)) docid (now (rows .entry))) (now (out .entry)) ⌝ }
 {
     let mut at: usize = 0;

@@ -44,28 +44,34 @@ returns-4 : tie.Need-returns-4
 returns-4 c = (λ e rest small on. next-not-refused (c .before .before .before .before .open-bytes .result) on (c .before .before .before .before .open-bytes .ensures) (c .before .before .before .if3 .left) (sym (c .before .before .read .ensures .0) ∙ c .enum-told .given .1), (λ h. omega arith, omega arith))
 
 returns-5 : tie.Need-returns-5
-returns-5 c = (λ e rest small on. absurd (omega (arith, on .same, on .limit)), (λ h. omega arith, omega arith))
+returns-5 c = (
+  λ e rest small on. let k = next-here (c .before .before .before .before .before .before .open-bytes .result) on (c .before .before .before .before .before .before .open-bytes .ensures) (c .before .before .before .before .before .if3 .left) (sym (c .before .before .before .before .read .ensures .0) ∙ c .before .before .value .given .1) in absurd (omega (arith, k .more)),
+  (λ h. omega arith, omega arith),
+)
+
+sub-if5 : tie.Need-sub-if5
+sub-if5 c = search needs
 
 returns-6 : tie.Need-returns-6
 returns-6 c = (
-  λ e rest small on.
-      let k = next-here (c .before .before .before .before .before .before .before .open-bytes .result) on (c .before .before .before .before .before .before .before .open-bytes .ensures) (c .before .before .before .before .before .before .if3 .left) (sym (c .before .before .before .before .before .read .ensures .0) ∙ c .before .before .before .value .given .1) in
-      absurd (omega (arith, k .inside)),
+  λ e rest small on. let k = next-here (c .before .before .before .before .before .before .before .open-bytes .result) on (c .before .before .before .before .before .before .before .open-bytes .ensures) (c .before .before .before .before .before .before .if3 .left) (sym (c .before .before .before .before .before .read .ensures .0) ∙ c .before .before .before .value .given .1) in absurd (omega (arith, k .fits)),
+  (λ h. omega arith, omega arith),
+)
+
+returns-7 : tie.Need-returns-7
+returns-7 c = (
+  λ e rest small on. let k = next-here (c .before .before .before .before .before .before .before .before .open-bytes .result) on (c .before .before .before .before .before .before .before .before .open-bytes .ensures) (c .before .before .before .before .before .before .before .if3 .left) (sym (c .before .before .before .before .before .before .read .ensures .0) ∙ c .before .before .before .before .value .given .1) in absurd (omega (arith, k .inside)),
   (λ h. omega arith, omega arith),
 )
 
 add-t18 : tie.Need-add-t18
-add-t18 c = let s = c .before .before .before .before .before .read .ensures .1 _ _ .0 (c .before .before .before .value .given .1) in omega (arith, s .small)
+add-t18 c = search needs
 
 cast-t19 : tie.Need-cast-t19
 cast-t19 c = search needs
 
-returns-7 : tie.Need-returns-7
-returns-7 c = (
-  λ e rest small on.
-      next-here (c .before .before .before .before .before .before .before .open-bytes .result) on (c .before .before .before .before .before .before .before .open-bytes .ensures) (c .before .before .before .before .before .before .if3 .left) (sym (c .before .before .before .before .before .read .ensures .0) ∙ c .before .before .before .value .given .1) .stands,
-  (λ h. let s = c .before .before .before .before .before .read .ensures .1 _ _ .0 (c .before .before .before .value .given .1) in omega (arith, s .ends), omega arith),
-)
+returns-8 : tie.Need-returns-8
+returns-8 c = (λ e rest small on. next-here (c .before .before .before .before .before .before .before .before .open-bytes .result) on (c .before .before .before .before .before .before .before .before .open-bytes .ensures) (c .before .before .before .before .before .before .before .if3 .left) (sym (c .before .before .before .before .before .before .read .ensures .0) ∙ c .before .before .before .before .value .given .1) .stands, (λ h. omega arith, omega arith))
 
 pub entry-after-spec : {M : Type 1} → statement M
 entry-after-spec =
@@ -84,7 +90,9 @@ entry-after-spec =
     enum-told
     returns-4
     returns-5
+    sub-if5
     returns-6
+    returns-7
     add-t18
     cast-t19
-    returns-7)
+    returns-8)

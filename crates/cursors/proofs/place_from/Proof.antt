@@ -2,13 +2,14 @@
 -- `rest` were passed.
 use mathlib.Core.Path.{_≡_, refl}
 use mathlib.Core.List.{List}
-use Prim.Native.Nat.{_+_, _-_, _≤_}
+use Prim.Native.Nat.{_-_, _≤_}
 use native.Mathlib.Omega.{arith}
 use borrow.Author.Needs.{needs}
 use lib.ListN.{length}
 use Rattle.common.specs.Bounds.{maxIndexBytes}
 use Rattle.doclist.specs.Doclist.{Entry}
-use Rattle.cursors.specs.Arrays.{finished, ListAt}
+use Rattle.cursors.specs.Groups.{lastKey}
+use Rattle.cursors.specs.Arrays.{ListAt}
 use Rattle.cursors.proofs.Passing.{Remains, remains-next, remains-end}
 use Rattle.cursors.proofs.place_from.Statement.{statement}
 use Rattle.cursors.proofs.place_from.Tie as tie
@@ -19,7 +20,7 @@ Inv-loop leaves docid body last rest place₀ place =
     × (rest ≤ docid → (place .docid ≡ docid) × (place .body ≡ body))
 
 abbrev μ-loop : tie.MeasureT-loop
-μ-loop leaves docid body last rest place₀ place = (finished + maxIndexBytes) - (place .docid + place .body)
+μ-loop leaves docid body last rest place₀ place = lastKey - place .docid
 
 loop-holds : tie.Need-loop-holds Inv-loop μ-loop
 loop-holds c = (λ left small h. record { entries = left; stands = h; same = refl }, λ h. (refl, refl))

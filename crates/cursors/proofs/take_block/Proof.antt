@@ -11,7 +11,8 @@ use native.Mathlib.Omega.{arith}
 use borrow.Author.Needs.{needs}
 use Rattle.cursors.specs.Groups.{Group}
 use Rattle.common.specs.Bytes.{part}
-use Rattle.cursors.specs.Arrays.{leastOf}
+use Rattle.common.proofs.Cases.{false-not-true}
+use Rattle.cursors.specs.Arrays.{StandsFor, leastOf}
 use Rattle.cursors.specs.Frames.{RowFrame, otherThan}
 use Rattle.cursors.proofs.Others.{rest-begun, rest-other, rest-hit}
 use Rattle.cursors.proofs.Framing.{frame-others, frame-hit}
@@ -53,11 +54,20 @@ mul-at c = search needs
 slice-read-at : tie.Need-slice-read-at Inv-loop μ-loop
 slice-read-at c = search needs
 
+mul-body : tie.Need-mul-body Inv-loop μ-loop
+mul-body c = search needs
+
+slice-read-body : tie.Need-slice-read-body Inv-loop μ-loop
+slice-read-body c = search needs
+
 shared-slice-read-is-hidden : tie.Need-shared-slice-read-is-hidden Inv-loop μ-loop
 shared-slice-read-is-hidden c = search needs
 
 is-hidden-requires : tie.Need-is-hidden-requires Inv-loop μ-loop
 is-hidden-requires c κs = search needs
+
+is-elsewhere-requires : tie.Need-is-elsewhere-requires Inv-loop μ-loop
+is-elsewhere-requires c κs = search needs
 
 over-other-requires : tie.Need-over-other-requires Inv-loop μ-loop
 over-other-requires c κs = search needs
@@ -70,11 +80,13 @@ loop-less c = search needs
 
 loop-again : tie.Need-loop-again Inv-loop μ-loop
 loop-again c =
-    let l = c .before .before .before .before .before .before .loop in
-    let a = c .before .before .before .before .before .before .before .before .before .before .before .before .before .before .before .before .args in
+    let l = c .before .before .before .before .before .before .before .before .loop in
+    let a = c .before .before .before .before .before .before .before .before .before .before .before .before .before .before .before .before .before .before .args in
     let f = l .inv .1 in
-    let t = c .before .before .before .before .before .loop-test .taken in
+    let t = c .before .before .before .before .before .before .before .loop-test .taken in
     let at : ℕ = getD (l .docids) (l .i) 0 in
+    let body : ℕ = getD (l .bodies) (l .i) 0 in
+    let o : StandsFor (a .docid) at body → ⊥ = λ s. false-not-true (sym (c .before .before .is-elsewhere .ensures .1 s) ∙ c .before .if1 .taken) in
     let e = c .over-other .ensures in (
       omega (arith, l .inv .0),
       record {
@@ -94,25 +106,19 @@ loop-again c =
       subst (BlockTaken (a .docids .now) (l .docids) (a .from) (l .i + 1)) (sym e) (block-other (l .inv .6) (l .inv .0) (omega (arith, f .docid-room)) _),
       λ n gs earlier h p.
           subst (λ (s : Scan). Scanned (a .leaves .now) (l .docids) (l .bodies) (a .lasts .now) (a .masks .now) (a .follows .now) n (l .starts) (l .matched) (a .docid) gs (joined earlier s) (l .i + 1))
-          (sym (e ∙ ap (λ (b : Bool). overOther (l .scan) b at) (c .before .before .is-hidden .ensures)))
+          (sym (e ∙ ap (λ (b : Bool). overOther (l .scan) b at) (c .before .before .before .is-hidden .ensures)))
           (scanned-other (a .leaves .now) (l .docids) (l .bodies) (a .lasts .now) (a .masks .now) (a .follows .now) n (l .starts) (l .matched) (a .docid) gs (joined earlier (l .scan)) (l .i) (omega arith)
-          (l .inv .7 n gs earlier h p) (min (earlier .rest) (min (l .scan .rest) at)) (min (earlier .moved) (l .scan .moved)) (c .before .if1 .taken) (omega arith) (omega arith)),
+          (l .inv .7 n gs earlier h p) (min (earlier .rest) (min (l .scan .rest) at)) (min (earlier .moved) (l .scan .moved)) o (omega arith) (omega arith)),
       λ d b s m g.
           subst (λ (x : Scan). RowFrame (a .docid) (l .i + 1) d (l .docids) b (l .bodies) s (l .starts) m (l .matched) (x .hits) (x .taken) (x .last)) (sym e)
           (frame-others (l .inv .8 d b s m g) (l .i + 1) (omega arith)),
       ap (λ (x : Scan). x .rest) e
-          ∙ rest-other (a .docid) (a .docids .now) (a .from) (l .i) (l .scan .rest) (l .inv .0) (omega (arith, f .docid-room, l .inv .2)) (l .inv .9) at
-          (l .inv .6 .others (l .i) (λ (u : a .from ≤ l .i) (v : l .i < l .i). omega arith)) (c .before .if1 .taken),
+          ∙ rest-other (a .docid) (a .docids .now) (a .from) (l .i) (l .scan .rest) (l .inv .0) (omega (arith, f .docid-room, l .inv .2)) (l .inv .9) at body
+          (l .inv .6 .others (l .i) (λ (u : a .from ≤ l .i) (v : l .i < l .i). omega arith)) o,
     )
 
 mul-starts : tie.Need-mul-starts Inv-loop μ-loop
 mul-starts c = search needs
-
-slice-read-starts : tie.Need-slice-read-starts Inv-loop μ-loop
-slice-read-starts c = search needs
-
-mul-starts-2 : tie.Need-mul-starts-2 Inv-loop μ-loop
-mul-starts-2 c = search needs
 
 slice-write-starts : tie.Need-slice-write-starts Inv-loop μ-loop
 slice-write-starts c = search needs
@@ -132,12 +138,6 @@ slice-write-matched c = search needs
 mul-entry-after : tie.Need-mul-entry-after Inv-loop μ-loop
 mul-entry-after c = search needs
 
-slice-read-entry-after : tie.Need-slice-read-entry-after Inv-loop μ-loop
-slice-read-entry-after c = search needs
-
-mul-entry-after-2 : tie.Need-mul-entry-after-2 Inv-loop μ-loop
-mul-entry-after-2 c = search needs
-
 shared-slice-read-entry-after : tie.Need-shared-slice-read-entry-after Inv-loop μ-loop
 shared-slice-read-entry-after c = search needs
 
@@ -145,19 +145,23 @@ entry-after-requires : tie.Need-entry-after-requires Inv-loop μ-loop
 entry-after-requires c κs = search needs
 
 mul-docids : tie.Need-mul-docids Inv-loop μ-loop
-mul-docids c = search needs
+mul-docids c = mul-at (c .before .before .before .before .before .before .before .before .before)
 
 slice-write-docids : tie.Need-slice-write-docids Inv-loop μ-loop
 slice-write-docids c = search needs
 
 mul-bodies : tie.Need-mul-bodies Inv-loop μ-loop
-mul-bodies c = search needs
+mul-bodies c = mul-body (c .before .before .before .before .before .before .before .before)
 
 slice-write-bodies : tie.Need-slice-write-bodies Inv-loop μ-loop
 slice-write-bodies c = search needs
 
 over-hit-requires : tie.Need-over-hit-requires Inv-loop μ-loop
-over-hit-requires c κs = search needs
+over-hit-requires c κs =
+    let l = c .before .before .before .before .before .before .before .before .before .before .loop in
+    let t = c .before .before .before .before .before .before .before .before .before .loop-test .taken in
+    let m = mul-at (c .before .before .before .before .before .before .before .before .before) in
+    (omega (arith, m .fits, l .inv .6 .few-hits), omega (arith, m .fits, l .inv .6 .few-taken))
 
 add-i-2 : tie.Need-add-i-2 Inv-loop μ-loop
 add-i-2 c = omega (arith, c .before .before .before .before .before .before .before .before .before .before .loop-test .taken, c .before .before .before .before .before .before .before .before .before .before .before .before .before .before .before .before .before .before .before .before .before .fits .to)
@@ -174,6 +178,7 @@ loop-again-2 c =
     let place = c .before .entry-after .result in
     let start : ℕ = getD (l .bodies) (l .i) 0 in
     let mask : ℕ = getD (a .masks .now) (l .i) 0 in
+    let o = c .before .before .before .before .before .is-elsewhere .ensures .0 (c .before .before .before .before .if1 .left) in
     let e = c .over-hit .ensures in (
       omega (arith, l .inv .0),
       record {
@@ -190,20 +195,20 @@ loop-again-2 c =
       simp length-set (l .inv .3),
       simp length-set (l .inv .4),
       simp length-set (l .inv .5),
-      block-hit (l .inv .6) (l .inv .0) (omega (arith, f .docid-room)) (c .before .before .before .before .before .before .before .is-hidden .result) _ (place .docid) (omega arith) e,
+      block-hit (l .inv .6) (l .inv .0) (omega (arith, f .docid-room)) (c .before .before .before .before .before .before .is-hidden .result) _ (place .docid) (omega arith) e,
       λ n gs earlier h p.
           subst (λ (s : Scan). Scanned (a .leaves .now) (set (l .docids) (l .i) (place .docid)) (set (l .bodies) (l .i) (place .body)) (a .lasts .now) (a .masks .now) (a .follows .now) n (set (l .starts) (l .scan .hits) start) (set (l .matched) (l .scan .hits) mask) (a .docid) gs (joined earlier s) (l .i + 1))
-          (sym (e ∙ ap (λ (b : Bool). overHit (l .scan) b (l .i) (place .docid)) (c .before .before .before .before .before .before .before .is-hidden .ensures)))
+          (sym (e ∙ ap (λ (b : Bool). overHit (l .scan) b (l .i) (place .docid)) (c .before .before .before .before .before .before .is-hidden .ensures)))
           (scanned-hit (a .leaves .now) (l .docids) (l .bodies) (a .lasts .now) (a .masks .now) (a .follows .now) n (l .starts) (l .matched) (a .docid) gs (joined earlier (l .scan)) (l .i) (omega arith)
           (l .inv .7 n gs earlier h p) (place .docid) (place .body) (min (earlier .moved) (min (l .scan .moved) (place .docid)))
           (omega (arith, f .docid-room)) (omega (arith, f .body-room)) (omega (arith, f .start-room, l .inv .6 .few-hits)) (omega (arith, f .matched-room, l .inv .6 .few-hits))
-          (c .before .before .before .before .before .before .if1 .left) (c .before .entry-after .ensures .0)),
+          o (c .before .entry-after .ensures .0)),
       λ d b s m g.
           subst (λ (x : Scan). RowFrame (a .docid) (l .i + 1) d (set (l .docids) (l .i) (place .docid)) b (set (l .bodies) (l .i) (place .body)) s (set (l .starts) (l .scan .hits) start) m (set (l .matched) (l .scan .hits) mask) (x .hits) (x .taken) (x .last)) (sym e)
-          (frame-hit (l .inv .8 d b s m g) (place .docid) (place .body) start mask (c .before .before .before .before .before .before .if1 .left) (omega (arith, f .docid-room)) (c .before .entry-after .ensures .1 .1) (c .before .before .before .before .before .before .before .is-hidden .result)),
+          (frame-hit (l .inv .8 d b s m g) (place .docid) (place .body) start mask (o .0) (omega (arith, f .docid-room)) (c .before .entry-after .ensures .1 .1) (c .before .before .before .before .before .before .is-hidden .result)),
       ap (λ (x : Scan). x .rest) e
           ∙ rest-hit (a .docid) (a .docids .now) (a .from) (l .i) (l .scan .rest) (l .inv .0) (omega (arith, f .docid-room, l .inv .2)) (l .inv .9)
-          (sym (l .inv .6 .others (l .i) (λ (u : a .from ≤ l .i) (v : l .i < l .i). omega arith)) ∙ c .before .before .before .before .before .before .if1 .left),
+          (sym (l .inv .6 .others (l .i) (λ (u : a .from ≤ l .i) (v : l .i < l .i). omega arith)) ∙ o .0),
     )
 
 same-length : tie.Need-same-length Inv-loop μ-loop
@@ -250,23 +255,22 @@ take-block-spec =
     loop-holds
     mul-at
     slice-read-at
+    mul-body
+    slice-read-body
     shared-slice-read-is-hidden
     is-hidden-requires
+    is-elsewhere-requires
     over-other-requires
     add-i
     loop-less
     loop-again
     mul-starts
-    slice-read-starts
-    mul-starts-2
     slice-write-starts
     mul-matched
     shared-slice-read-matched
     mul-matched-2
     slice-write-matched
     mul-entry-after
-    slice-read-entry-after
-    mul-entry-after-2
     shared-slice-read-entry-after
     entry-after-requires
     mul-docids

@@ -3,7 +3,6 @@ use mathlib.Core.Path.{sym, _∙_}
 use native.Mathlib.Omega.{arith}
 use borrow.Author.Tests.{lt-ltb, le-ltb, le-leb, lt-leb}
 use borrow.Author.Needs.{needs}
-use Rattle.varint.proofs.Laws.{stored-at}
 use Rattle.doclist.proofs.announced.Statement.{statement}
 use Rattle.doclist.proofs.announced.Tie as tie
 
@@ -47,9 +46,7 @@ returns-4 c =
     simp (e, lt-leb _ _ (c .before .before .before .before .if1 .left), lt-ltb _ _ (c .before .before .before .if2 .left), f)
 
 spot-at-requires : tie.Need-spot-at-requires
-spot-at-requires c κs =
-    let f = sym (c .before .before .before .read2 .ensures .0) ∙ c .before .v .given .1 in
-    (omega arith, stored-at _ _ _ _ .0 f .small)
+spot-at-requires c κs = omega arith
 
 returns-5 : tie.Need-returns-5
 returns-5 c =

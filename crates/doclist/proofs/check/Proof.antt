@@ -1,6 +1,6 @@
 -- `check` meets its contract. The loop's invariant: what is left to check, where an entry's columns begin, gives what checking
 -- the whole list gives (`Checking`). The measure is what is left of the length.
-use Prim.Native.Nat.{_-_}
+use Prim.Native.Nat.{ℕ, _-_}
 use native.Mathlib.Omega.{arith}
 use mathlib.Core.Path.{refl, sym, _∙_, subst}
 use lib.ListN.{length}
@@ -46,11 +46,15 @@ returns-3 c =
     let e = sym (c .before .before .read .ensures .0) ∙ c .enum-told .given .1 in
     checked (a .columns) (a .s .now) (sym (at-refused (checking-start (a .columns) (a .s .now) (omega arith) (c .before .before .before .if2 .left)) refl e))
 
+key-of-bits-requires : tie.Need-key-of-bits-requires Inv-loop μ-loop
+key-of-bits-requires c κs = search needs
+
 loop-holds : tie.Need-loop-holds Inv-loop μ-loop
 loop-holds c =
-    let a = c .before .before .before .before .before .before .before .args in
-    let e = sym (c .before .before .before .read .ensures .0) ∙ c .before .first .given .1 in
-    at-number (checking-start (a .columns) (a .s .now) (omega arith) (c .before .before .before .before .if2 .left)) e
+    let a = c .before .before .before .before .before .before .before .before .args in
+    let e = sym (c .before .before .before .before .read .ensures .0) ∙ c .before .before .first .given .1 in
+    let k = at-number (checking-start (a .columns) (a .s .now) (omega arith) (c .before .before .before .before .before .if2 .left)) e in
+    subst (λ (d : ℕ). Checking (a .columns) (a .s .now) (c .before .before .first .given .0 .1 .0) (Open d 0 0 0)) (sym (c .key-of-bits .ensures)) k
 
 close-requires : tie.Need-close-requires Inv-loop μ-loop
 close-requires c κs = search needs
@@ -63,13 +67,13 @@ enum-told-2 c = search needs
 
 returns-4 : tie.Need-returns-4 Inv-loop μ-loop
 returns-4 c =
-    let a = c .before .before .before .before .before .before .before .before .before .before .before .args in
+    let a = c .before .before .before .before .before .before .before .before .before .before .before .before .args in
     let k = subst (Closes _ _ _) (c .enum-told2 .given .1) (c .before .before .close .ensures) _ (c .before .before .before .loop .inv) in
     checked (a .columns) (a .s .now) (sym k)
 
 returns-5 : tie.Need-returns-5 Inv-loop μ-loop
 returns-5 c =
-    let a = c .before .before .before .before .before .before .before .before .before .before .before .before .before .args in
+    let a = c .before .before .before .before .before .before .before .before .before .before .before .before .before .before .args in
     let k = subst (Closes _ _ _) (c .before .before .end .given .1) (c .before .before .before .before .close .ensures) .1 _ (c .before .before .before .before .before .loop .inv) in
     checked (a .columns) (a .s .now) (sym (checking-ends k (c .if3 .taken)))
 
@@ -84,14 +88,14 @@ enum-told-3 c = search needs
 
 returns-6 : tie.Need-returns-6 Inv-loop μ-loop
 returns-6 c =
-    let a = c .before .before .before .before .before .before .before .before .before .before .before .before .before .before .before .before .args in
+    let a = c .before .before .before .before .before .before .before .before .before .before .before .before .before .before .before .before .before .args in
     let k = subst (Closes _ _ _) (c .before .before .before .before .before .end .given .1) (c .before .before .before .before .before .before .before .close .ensures) .1 _ (c .before .before .before .before .before .before .before .before .loop .inv) in
     let e = sym (c .before .before .read2 .ensures .0) ∙ c .enum-told3 .given .1 in
     checked (a .columns) (a .s .now) (sym (checking-refused k (c .before .before .before .if3 .left) e))
 
 returns-7 : tie.Need-returns-7 Inv-loop μ-loop
 returns-7 c =
-    let a = c .before .before .before .before .before .before .before .before .before .before .before .before .before .before .before .before .before .before .args in
+    let a = c .before .before .before .before .before .before .before .before .before .before .before .before .before .before .before .before .before .before .before .args in
     let k = subst (Closes _ _ _) (c .before .before .before .before .before .before .before .end .given .1) (c .before .before .before .before .before .before .before .before .before .close .ensures) .1 _ (c .before .before .before .before .before .before .before .before .before .before .loop .inv) in
     let e = sym (c .before .before .before .before .read2 .ensures .0) ∙ c .before .before .v .given .1 in
     checked (a .columns) (a .s .now) (sym (docid-again k e (c .if4 .taken)))
@@ -103,10 +107,10 @@ sub-if5 c =
 
 returns-8 : tie.Need-returns-8 Inv-loop μ-loop
 returns-8 c =
-    let a = c .before .before .before .before .before .before .before .before .before .before .before .before .before .before .before .before .before .before .before .args in
+    let a = c .before .before .before .before .before .before .before .before .before .before .before .before .before .before .before .before .before .before .before .before .args in
     let k = subst (Closes _ _ _) (c .before .before .before .before .before .before .before .before .end .given .1) (c .before .before .before .before .before .before .before .before .before .before .close .ensures) .1 _ (c .before .before .before .before .before .before .before .before .before .before .before .loop .inv) in
     let e = sym (c .before .before .before .before .before .read2 .ensures .0) ∙ c .before .before .before .v .given .1 in
-    checked (a .columns) (a .s .now) (sym (docid-large k e (c .before .if4 .left) (c .if5 .taken)))
+    checked (a .columns) (a .s .now) (sym (docid-large k e (c .before .if4 .left) (omega arith)))
 
 add-docid : tie.Need-add-docid Inv-loop μ-loop
 add-docid c =
@@ -124,7 +128,7 @@ loop-again : tie.Need-loop-again Inv-loop μ-loop
 loop-again c =
     let k = subst (Closes _ _ _) (c .before .before .before .before .before .before .before .before .end .given .1) (c .before .before .before .before .before .before .before .before .before .before .close .ensures) .1 _ (c .before .before .before .before .before .before .before .before .before .before .before .loop .inv) in
     let e = sym (c .before .before .before .before .before .read2 .ensures .0) ∙ c .before .before .before .v .given .1 in
-    next-entry k e (c .before .if4 .left) (c .if5 .left)
+    next-entry k e (c .before .if4 .left) (omega arith)
 
 pub check-spec : {M : Type 1} → statement M
 check-spec =
@@ -138,6 +142,7 @@ check-spec =
     enum-known-first
     enum-told
     returns-3
+    key-of-bits-requires
     loop-holds
     close-requires
     enum-known-end

@@ -5,7 +5,6 @@ use native.Mathlib.Omega.{arith}
 use mathlib.Core.Path.{sym, _∙_}
 use lib.ListN.{length}
 use borrow.Author.Needs.{needs}
-use Rattle.varint.proofs.Laws.{stored-at}
 use Rattle.doclist.proofs.Spots.{Closing, closing-refused, closing-ends, closing-broken, closing-small, closing-more}
 use Rattle.doclist.proofs.close.Statement.{statement}
 use Rattle.doclist.proofs.close.Tie as tie
@@ -39,9 +38,7 @@ returns-2 c =
     closing-ends (c .before .before .before .before .before .loop .inv) e (c .if1 .taken)
 
 spot-after-requires : tie.Need-spot-after-requires Inv-loop μ-loop
-spot-after-requires c κs =
-    let e = sym (c .before .before .before .before .read .ensures .0) ∙ c .before .before .v .given .1 in
-    (c .before .before .before .before .before .loop .inv .small, stored-at _ _ _ _ .0 e .small)
+spot-after-requires c κs = c .before .before .before .before .before .loop .inv .small
 
 enum-known-in-column : tie.Need-enum-known-in-column Inv-loop μ-loop
 enum-known-in-column c = search needs

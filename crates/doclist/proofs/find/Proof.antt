@@ -49,9 +49,7 @@ returns-3 c =
     found (a .columns) (a .s .now) (a .docid) (sym (finding-refused (c .before .before .before .before .loop .inv) (c .before .before .before .loop-test .taken) e))
 
 step-requires : tie.Need-step-requires Inv-loop μ-loop
-step-requires c κs =
-    let e = sym (c .before .before .before .read .ensures .0) ∙ c .before .value .given .1 in
-    (c .before .before .before .before .before .loop .inv .sane, stored-at _ _ _ _ .0 e .small)
+step-requires c κs = c .before .before .before .before .before .loop .inv .sane
 
 enum-known-q : tie.Need-enum-known-q Inv-loop μ-loop
 enum-known-q c = search needs

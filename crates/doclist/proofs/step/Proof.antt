@@ -1,17 +1,23 @@
 -- `step` meets its contract, by the cases of the state; what the bounds of the state say is what its callees require.
+use Prim.Native.Nat.{ℕ}
+use mathlib.Core.Path.{ap}
 use borrow.Author.Tests.{eq-eqb, ne-eqb}
 use borrow.Author.Needs.{needs}
+use Rattle.doclist.specs.declared.State.the-variants.{Open}
 use Rattle.doclist.proofs.step.Statement.{statement}
 use Rattle.doclist.proofs.step.Tie as tie
 
 enum-told : tie.Need-enum-told
 enum-told c = search needs
 
+key-of-bits-requires : tie.Need-key-of-bits-requires
+key-of-bits-requires c κs = search needs
+
 enum-known-q : tie.Need-enum-known-q
 enum-known-q c = search needs
 
 next-docid-requires : tie.Need-next-docid-requires
-next-docid-requires c κs = rw (c .before .q .given .1) at (c .before .before .before .pre .0)
+next-docid-requires c κs = search needs
 
 enum-known-q-2 : tie.Need-enum-known-q-2
 enum-known-q-2 c = search needs
@@ -24,8 +30,8 @@ returns-2 c = rw (c .before .before .before .q2 .given .1) (simp (ne-eqb _ _ (c 
 
 position-requires : tie.Need-position-requires
 position-requires c κs =
-    let s = rw (c .before .before .before .q2 .given .1) at (c .before .before .before .before .before .pre .0) in
-    (s .1, c .before .before .before .before .before .pre .1)
+    let s = rw (c .before .before .before .q2 .given .1) at (c .before .before .before .before .before .pre) in
+    s .1
 
 enum-known-q-3 : tie.Need-enum-known-q-3
 enum-known-q-3 c = search needs
@@ -43,7 +49,7 @@ enum-told-2 : tie.Need-enum-told-2
 enum-told-2 c = search needs
 
 returns-3 : tie.Need-returns-3
-returns-3 c = rw (c .enum-told .given .1)
+returns-3 c = rw (c .before .enum-told .given .1) (ap (λ (d : ℕ). Open d 0 0 0) (c .key-of-bits .ensures))
 
 returns-4 : tie.Need-returns-4
 returns-4 c = rw (c .before .before .q .given .1) (c .next-docid .ensures)
@@ -65,6 +71,7 @@ step-spec =
     tie.close
     (tie.spec
     enum-told
+    key-of-bits-requires
     enum-known-q
     next-docid-requires
     enum-known-q-2

@@ -4,8 +4,8 @@ use mathlib.Core.Path.{_≡_, sym, ap, _∙_}
 use mathlib.Core.Bool.{true}
 use lib.ListN.{set}
 use borrow.Author.Needs.{needs}
+use Rattle.doclist.specs.Docid.{docidOf}
 use Rattle.common.specs.Pick.{pick}
-use Rattle.meaning.specs.Listing.{signedDocid}
 use Rattle.engine.proofs.note.Statement.{statement}
 use Rattle.engine.proofs.note.Tie as tie
 
@@ -22,7 +22,7 @@ returns : tie.Need-returns
 returns c =
     let a = c .before .before .before .before .args in
     let t : a .holds ≡ true = c .before .before .before .if1 .taken in
-    (sym (ap (λ b. pick b (a .count + 1) (a .count)) t), c .before .put-docid .ensures ∙ sym (ap (λ b. pick b (set (a .room .now) (a .count) (signedDocid (a .docid))) (a .room .now)) t))
+    (sym (ap (λ b. pick b (a .count + 1) (a .count)) t), c .before .put-docid .ensures ∙ sym (ap (λ b. pick b (set (a .room .now) (a .count) (docidOf (a .docid))) (a .room .now)) t))
 
 returns-2 : tie.Need-returns-2
 returns-2 c = search needs

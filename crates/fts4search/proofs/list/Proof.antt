@@ -1,21 +1,8 @@
--- `fts4search::list` is safe and ends; a docid that is not negative fits.
-use mathlib.Core.Path.{_≡_, sym, subst}
-use mathlib.Core.Bool.{true}
+-- `fts4search::list` is safe and ends.
 use Prim.Native.Nat.{_-_, _≤_}
 use borrow.Author.Needs.{needs}
-use lib.ListN.{getD}
 use Rattle.fts4search.proofs.list.Statement.{statement}
 use Rattle.fts4search.proofs.list.Tie as tie
-use lib.Dec.{T}
-use lib.IntN.{ℤ, pos, negsuc, natAbs}
-use lib.Signed.{leZ, nonNeg}
-use mir.Syntax.{w64}
-use mir.Val.{Fits, SFits, toZ, ofZ}
-use mir.Facts.{fits-natAbs, toZ-ofZ}
-
-back : (z : ℤ) → SFits w64 z → leZ (pos 0) z ≡ true → T (nonNeg z) × Fits w64 (natAbs z)
-back (pos n) f e = (tt, fits-natAbs {w = w64} {w′ = w64} tt f)
-back (negsuc n) f e = absurd (subst T (sym e) tt)
 
 abbrev Inv-loop : tie.InvT-loop
 Inv-loop room n i₀ i = i ≤ n
@@ -26,21 +13,14 @@ abbrev μ-loop : tie.MeasureT-loop
 loop-holds : tie.Need-loop-holds Inv-loop μ-loop
 loop-holds c = search needs
 
-mul-d : tie.Need-mul-d Inv-loop μ-loop
-mul-d c = search needs
+mul-docid-line : tie.Need-mul-docid-line Inv-loop μ-loop
+mul-docid-line c = search needs
 
-shared-slice-copy-out-d : tie.Need-shared-slice-copy-out-d Inv-loop μ-loop
-shared-slice-copy-out-d c = search needs
+shared-slice-copy-out-docid-line : tie.Need-shared-slice-copy-out-docid-line Inv-loop μ-loop
+shared-slice-copy-out-docid-line c = search needs
 
-cast-line : tie.Need-cast-line Inv-loop μ-loop
-cast-line c =
-    let l = c .before .before .before .before in
-    let e = getD (l .before .args .room .now) (l .loop .i) (pos 0) in
-    let f : SFits w64 e = record { sfits = c .before .d .given } in
-    back (toZ w64 (ofZ w64 e)) (rw (toZ-ofZ f) f) (c .if2 .taken)
-
-line-requires : tie.Need-line-requires Inv-loop μ-loop
-line-requires c κs = search needs
+docid-line-requires : tie.Need-docid-line-requires Inv-loop μ-loop
+docid-line-requires c κs = search needs
 
 add-i : tie.Need-add-i Inv-loop μ-loop
 add-i c = search needs
@@ -61,10 +41,9 @@ list-spec =
     Inv-loop
     μ-loop
     loop-holds
-    mul-d
-    shared-slice-copy-out-d
-    cast-line
-    line-requires
+    mul-docid-line
+    shared-slice-copy-out-docid-line
+    docid-line-requires
     add-i
     loop-less
     loop-again

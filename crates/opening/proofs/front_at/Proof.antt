@@ -39,30 +39,33 @@ returns-2 c =
           absurd (omega (arith, k .0, c .before .if1 .taken)),
     )
 
-add-t12 : tie.Need-add-t12
-add-t12 c = search needs
+key-of-bits-requires : tie.Need-key-of-bits-requires
+key-of-bits-requires c κs = search needs
 
-cast-t13 : tie.Need-cast-t13
-cast-t13 c = search needs
+add-t13 : tie.Need-add-t13
+add-t13 c = search needs
 
-add-t14 : tie.Need-add-t14
-add-t14 c = search needs
+cast-t14 : tie.Need-cast-t14
+cast-t14 c = search needs
 
-sub-t15 : tie.Need-sub-t15
-sub-t15 c = search needs
+add-t15 : tie.Need-add-t15
+add-t15 c = search needs
 
-cast-t16 : tie.Need-cast-t16
-cast-t16 c = search needs
+sub-t16 : tie.Need-sub-t16
+sub-t16 c = search needs
+
+cast-t17 : tie.Need-cast-t17
+cast-t17 c = search needs
 
 returns-3 : tie.Need-returns-3
 returns-3 c =
-    let a = c .before .before .before .before .before .before .args in (
+    let a = c .before .before .before .before .before .before .before .args in (
       record {
-        sized = omega (arith, c .before .before .before .before .before .before .pre);
-        inside = λ _. (omega (arith, c .if1 .left), omega (arith, c .if1 .left, c .before .before .before .before .before .before .pre));
+        sized = omega (arith, c .before .before .before .before .before .before .before .pre);
+        inside = λ _. (omega (arith, c .before .if1 .left), omega (arith, c .before .if1 .left, c .before .before .before .before .before .before .before .pre));
       },
       λ entries tail columns w e q.
-          front-has (a .leaf .now) (a .base) (a .word) (a .size) (a .mask) (a .list) (a .next) entries tail columns w e q (sym (c .before .before .before .before .read-long .ensures .0) ∙ c .before .before .value .given .1) .1,
+          front-has (a .leaf .now) (a .base) (a .word) (a .size) (a .mask) (a .list) (a .next) entries tail columns w e q (sym (c .before .before .before .before .before .read-long .ensures .0) ∙ c .before .before .before .value .given .1) .1 (c .key-of-bits .result) (c .key-of-bits .ensures),
     )
 
 pub front-at-spec : {M : Type 1} → statement M
@@ -76,9 +79,10 @@ front-at-spec =
     returns
     no-front-requires-2
     returns-2
-    add-t12
-    cast-t13
-    add-t14
-    sub-t15
-    cast-t16
+    key-of-bits-requires
+    add-t13
+    cast-t14
+    add-t15
+    sub-t16
+    cast-t17
     returns-3)

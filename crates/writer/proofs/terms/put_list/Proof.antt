@@ -7,6 +7,7 @@ use mathlib.Core.List.{List, _++_, append-assoc}
 use lib.ListN.{length, getD, take, drop, length-append}
 use Rattle.common.specs.Bytes.{over}
 use Rattle.varint.specs.Varint.{encode}
+use Rattle.doclist.specs.Docid.{bitsOf}
 use Rattle.doclist.specs.Doclist.{encodeAll}
 use Rattle.writer.specs.Stored.{rowNumbers, numbersFrom, listBytes, Rises}
 use Rattle.writer.proofs.Lists.{rises-end, rises-here, rises-next, numbers-next, numbers-next-length}
@@ -16,37 +17,39 @@ use Rattle.writer.proofs.terms.put_list.Statement.{statement}
 use Rattle.writer.proofs.terms.put_list.Tie as tie
 
 abbrev Inv-loop : tie.InvT-loop
-Inv-loop out₀ rows docid at₀ last₀ i₀ out at last i = (w : List ℕ) × Wrote out₀ out w at × Rises last (drop i rows) × (w ++ encodeAll (numbersFrom last (drop i rows)) ≡ listBytes docid rows) × (length (encode docid) ≤ length w)
+Inv-loop out₀ rows docid bits at₀ last₀ i₀ out at last i = (w : List ℕ) × Wrote out₀ out w at × Rises last (drop i rows) × (w ++ encodeAll (numbersFrom last (drop i rows)) ≡ listBytes docid rows) × (length (encode (bitsOf docid)) ≤ length w)
 
 abbrev μ-loop : tie.MeasureT-loop
-μ-loop out₀ rows docid at₀ last₀ i₀ out at last i = length rows - i
+μ-loop out₀ rows docid bits at₀ last₀ i₀ out at last i = length rows - i
 
 -- the docid stands in the room
-first : (c : tie.After-put-number Inv-loop μ-loop) → Wrote (c .before .before .before .before .args .out .now) (c .put-number .last .0) (encode (c .before .before .before .before .args .docid)) (c .put-number .result)
+first : (c : tie.After-put-number Inv-loop μ-loop) → Wrote (c .before .before .before .before .before .args .out .now) (c .put-number .last .0) (encode (bitsOf (c .before .before .before .before .before .args .docid))) (c .put-number .result)
 first c =
-    let z = c .before .before .before .before in
-    wrote-first (z .args .out .now) (c .put-number .last .0) (encode (z .args .docid)) (c .put-number .result)
-    (omega (arith, z .pre .2, length-append (encode (z .args .docid)) (encodeAll (numbersFrom 0 (z .args .rows .now))))) (c .put-number .ensures)
+    let z = c .before .before .before .before .before in
+    let b = c .before .before .bits-of .ensures in
+    wrote-first (z .args .out .now) (c .put-number .last .0) (encode (bitsOf (z .args .docid))) (c .put-number .result)
+    (omega (arith, z .pre .1, length-append (encode (bitsOf (z .args .docid))) (encodeAll (numbersFrom 0 (z .args .rows .now)))))
+    (c .put-number .ensures .0 ∙ ap (λ n. length (encode n)) b, c .put-number .ensures .1 ∙ ap (λ n. over (encode n) (z .args .out .now)) b)
 
 -- the list fits
-fits : (c : tie.At-loop Inv-loop μ-loop) → length (listBytes (c .before .before .before .before .before .before .before .args .docid) (c .before .before .before .before .before .before .before .args .rows .now)) ≤ length (c .before .before .before .put-number .last .0)
-fits c = omega (arith, c .before .before .before .before .before .before .before .pre .2, wrote-length (first (c .before .before .before)))
+fits : (c : tie.At-loop Inv-loop μ-loop) → length (listBytes (c .before .before .before .before .before .before .before .before .args .docid) (c .before .before .before .before .before .before .before .before .args .rows .now)) ≤ length (c .before .before .before .put-number .last .0)
+fits c = omega (arith, c .before .before .before .before .before .before .before .before .pre .1, wrote-length (first (c .before .before .before)))
 
 -- what is written, and what is left
-left : (c : tie.At-loop Inv-loop μ-loop) → length (c .loop .inv .0) + length (encodeAll (numbersFrom (c .loop .last) (drop (c .loop .i) (c .before .before .before .before .before .before .before .args .rows .now)))) ≤ length (c .before .before .before .put-number .last .0)
+left : (c : tie.At-loop Inv-loop μ-loop) → length (c .loop .inv .0) + length (encodeAll (numbersFrom (c .loop .last) (drop (c .loop .i) (c .before .before .before .before .before .before .before .before .args .rows .now)))) ≤ length (c .before .before .before .put-number .last .0)
 left c =
     let l = c .loop in
-    omega (arith, fits c, ap length (l .inv .3), length-append (l .inv .0) (encodeAll (numbersFrom (l .last) (drop (l .i) (c .before .before .before .before .before .before .before .args .rows .now)))))
+    omega (arith, fits c, ap length (l .inv .3), length-append (l .inv .0) (encodeAll (numbersFrom (l .last) (drop (l .i) (c .before .before .before .before .before .before .before .before .args .rows .now)))))
 
-row-fits : (c : tie.In-loop Inv-loop μ-loop) → length (c .before .loop .inv .0) + length (encodeAll (rowNumbers (c .before .loop .last) (getD (c .before .before .before .before .before .before .before .before .args .rows .now) (c .before .loop .i) 0))) ≤ length (c .before .before .before .before .put-number .last .0)
+row-fits : (c : tie.In-loop Inv-loop μ-loop) → length (c .before .loop .inv .0) + length (encodeAll (rowNumbers (c .before .loop .last) (getD (c .before .before .before .before .before .before .before .before .before .args .rows .now) (c .before .loop .i) 0))) ≤ length (c .before .before .before .before .put-number .last .0)
 row-fits c =
     let l = c .before .loop in
-    omega (arith, left (c .before), numbers-next-length (l .last) (c .before .before .before .before .before .before .before .before .args .rows .now) (l .i) (c .loop-test .taken))
+    omega (arith, left (c .before), numbers-next-length (l .last) (c .before .before .before .before .before .before .before .before .before .args .rows .now) (l .i) (c .loop-test .taken))
 
 end-fits : (c : tie.After-loop Inv-loop μ-loop) → length (c .before .loop .inv .0) + length (encode 0) ≤ length (c .before .before .before .before .put-number .last .0)
 end-fits c =
     let l = c .before .loop in
-    omega (arith, left (c .before), ap length (rises-end (l .last) (c .before .before .before .before .before .before .before .before .args .rows .now) (l .i) (c .loop-test .left)))
+    omega (arith, left (c .before), ap length (rises-end (l .last) (c .before .before .before .before .before .before .before .before .before .args .rows .now) (l .i) (c .loop-test .left)))
 
 -- the closing 0 stands after the rows
 closed : (c : tie.After-put-number2 Inv-loop μ-loop) → Wrote (c .before .before .before .before .before .before .put-number .last .0)
@@ -55,15 +58,18 @@ closed : (c : tie.After-put-number2 Inv-loop μ-loop) → Wrote (c .before .befo
 closed c =
     wrote-more (c .before .before .before .loop .inv .1) (encode 0) (c .put-number2 .last .0) (c .put-number2 .result) (end-fits (c .before .before)) (c .put-number2 .ensures .0) (c .put-number2 .ensures .1)
 
+bits-of-requires : tie.Need-bits-of-requires Inv-loop μ-loop
+bits-of-requires c κs = search needs
+
 put-number-requires : tie.Need-put-number-requires Inv-loop μ-loop
 put-number-requires c κs =
-    let z = c .before .before .before in
-    (z .pre .0, omega (arith, z .pre .2, length-append (encode (z .args .docid)) (encodeAll (numbersFrom 0 (z .args .rows .now)))))
+    let z = c .before .before .before .before in
+    omega (arith, z .pre .1, ap (λ n. length (encode n)) (c .before .bits-of .ensures), length-append (encode (bitsOf (z .args .docid))) (encodeAll (numbersFrom 0 (z .args .rows .now))))
 
 loop-holds : tie.Need-loop-holds Inv-loop μ-loop
 loop-holds c =
-    let z = c .before .before .before .before .before .before in
-    (encode (z .args .docid), wrote-again (first (c .before .before)), z .pre .1, refl, omega arith)
+    let z = c .before .before .before .before .before .before .before in
+    (encode (bitsOf (z .args .docid)), wrote-again (first (c .before .before)), z .pre .0, refl, omega arith)
 
 sub-put-row : tie.Need-sub-put-row Inv-loop μ-loop
 sub-put-row c = wrote-within (c .before .loop .inv .1)
@@ -83,7 +89,7 @@ shared-slice-read-put-row c = search needs
 put-row-requires : tie.Need-put-row-requires Inv-loop μ-loop
 put-row-requires c κs =
     let l = c .before .before .before .loop in
-    let rows = c .before .before .before .before .before .before .before .before .before .before .args .rows .now in (
+    let rows = c .before .before .before .before .before .before .before .before .before .before .before .args .rows .now in (
       rises-here (l .last) rows (l .i) (c .before .before .loop-test .taken) (l .inv .2),
       wrote-free (l .inv .1) (encodeAll (rowNumbers (l .last) (getD rows (l .i) 0))) (row-fits (c .before .before)),
     )
@@ -108,7 +114,7 @@ loop-less c = search needs
 loop-again : tie.Need-loop-again Inv-loop μ-loop
 loop-again c =
     let l = c .before .before .before .before .before .before .before .loop in
-    let rows = c .before .before .before .before .before .before .before .before .before .before .before .before .before .before .args .rows .now in
+    let rows = c .before .before .before .before .before .before .before .before .before .before .before .before .before .before .before .args .rows .now in
     let h = c .before .before .before .before .before .before .loop-test .taken in
     let v = encodeAll (rowNumbers (l .last) (getD rows (l .i) 0)) in
     let p = c .before .before .before .put-row in (
@@ -129,7 +135,7 @@ part-put-number-end : tie.Need-part-put-number-end Inv-loop μ-loop
 part-put-number-end c = search needs
 
 put-number-requires-2 : tie.Need-put-number-requires-2 Inv-loop μ-loop
-put-number-requires-2 c κs = (omega arith, wrote-free (c .before .before .loop .inv .1) (encode 0) (end-fits (c .before)))
+put-number-requires-2 c κs = wrote-free (c .before .before .loop .inv .1) (encode 0) (end-fits (c .before))
 
 add-result : tie.Need-add-result Inv-loop μ-loop
 add-result c =
@@ -142,7 +148,7 @@ same-length c = wrote-length (closed (c .before .before)) ∙ wrote-length (firs
 returns : tie.Need-returns Inv-loop μ-loop
 returns c =
     let l = c .before .before .before .before .before .loop in
-    let z = c .before .before .before .before .before .before .before .before .before .before .before .before in
+    let z = c .before .before .before .before .before .before .before .before .before .before .before .before .before in
     let w = closed (c .before .before) in
     let e = ap (λ x. l .inv .0 ++ x) (sym (rises-end (l .last) (z .args .rows .now) (l .i) (c .before .before .before .before .loop-test .left))) ∙ l .inv .3 in
     (w .ends ∙ ap length e, wrote-under (first (c .before .before .before .before .before .before .before .before)) w (omega (arith, l .inv .4, length-append (l .inv .0) (encode 0))) ∙ ap (λ x. over x (z .args .out .now)) e)
@@ -153,6 +159,7 @@ put-list-spec =
     (tie.spec
     Inv-loop
     μ-loop
+    bits-of-requires
     put-number-requires
     loop-holds
     sub-put-row

@@ -17,7 +17,7 @@ same-length c = search needs
 returns : tie.Need-returns
 returns c =
     let z = c .before .before .before .before .before .before in
-    (c .size .ensures, c .before .before .before .write .ensures .1 ∙ room-written (z .args .v) (z .args .out .now) (z .pre .0) (z .pre .1))
+    (c .size .ensures, c .before .before .before .write .ensures .1 ∙ room-written (z .args .v) (z .args .out .now) (z .pre))
 
 pub put-number-spec : {M : Type 1} → statement M
 put-number-spec = tie.close (tie.spec write-requires size-requires same-length returns)

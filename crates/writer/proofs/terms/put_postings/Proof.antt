@@ -5,7 +5,6 @@ use lib.ListN.{length}
 use Rattle.common.specs.Bytes.{over}
 use Rattle.varint.specs.Varint.{encode}
 use Rattle.writer.specs.Stored.{listBytes}
-use Rattle.writer.proofs.Lists.{list-most}
 use Rattle.writer.proofs.TermLaws.{postings-length}
 use Rattle.writer.proofs.Writing.{Wrote, wrote-first, wrote-within, wrote-free, wrote-more}
 use borrow.Author.Needs.{needs}
@@ -27,10 +26,7 @@ list-size-requires c κs = search needs
 put-number-requires : tie.Need-put-number-requires
 put-number-requires c κs =
     let z = c .before .before .before .before in
-    let e = c .list-size .ensures in (
-      omega (arith, e, list-most (z .args .docid) (z .args .rows .now), z .pre .0 .2),
-      omega (arith, z .pre .1, postings-length (z .args .docid) (z .args .rows .now), ap (λ n. length (encode n)) e),
-    )
+    omega (arith, z .pre .1, postings-length (z .args .docid) (z .args .rows .now), ap (λ n. length (encode n)) (c .list-size .ensures))
 
 sub-put-list : tie.Need-sub-put-list
 sub-put-list c = wrote-within (sized-length (c .before .before))
@@ -45,7 +41,6 @@ put-list-requires : tie.Need-put-list-requires
 put-list-requires c κs =
     let z = c .before .before .before .before .before .before .before .before in (
       z .pre .0 .0,
-      z .pre .0 .1,
       wrote-free (sized-length (c .before .before .before)) (listBytes (z .args .docid) (z .args .rows .now)) (omega (arith, z .pre .1, postings-length (z .args .docid) (z .args .rows .now))),
     )
 

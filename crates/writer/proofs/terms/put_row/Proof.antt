@@ -71,7 +71,7 @@ add-put-number : tie.Need-add-put-number
 add-put-number c = search needs
 
 put-number-requires : tie.Need-put-number-requires
-put-number-requires c κs = (omega (arith, c .before .before .before .before .position-of .ensures), omega (arith, c .before .before .before .before .before .before .before .pre .1, ap length (same c)))
+put-number-requires c κs = omega (arith, c .before .before .before .before .before .before .before .pre .1, ap length (same c))
 
 same-length : tie.Need-same-length
 same-length c = search needs
@@ -83,7 +83,7 @@ returns c =
     (c .before .before .put-number .ensures .0 ∙ sym (ap length e), c .before .before .put-number .ensures .1 ∙ sym (ap (λ w. over w (z .args .out .now)) e))
 
 put-number-requires-2 : tie.Need-put-number-requires-2
-put-number-requires-2 c κs = (omega arith, omega (arith, room (c .before)))
+put-number-requires-2 c κs = omega (arith, room (c .before))
 
 sub-put-number-2 : tie.Need-sub-put-number-2
 sub-put-number-2 c = wrote-within (one (c .before .before))
@@ -95,7 +95,7 @@ part-put-number-end : tie.Need-part-put-number-end
 part-put-number-end c = search needs
 
 put-number-requires-3 : tie.Need-put-number-requires-3
-put-number-requires-3 c κs = (omega (arith, c .before .before .before .before .before .before .before .before .column-of .ensures), wrote-free (one (c .before .before .before)) (encode (c .before .before .before .before .before .before .before .before .column-of .result)) (omega (arith, room (c .before .before .before .before .before))))
+put-number-requires-3 c κs = wrote-free (one (c .before .before .before)) (encode (c .before .before .before .before .before .before .before .before .column-of .result)) (omega (arith, room (c .before .before .before .before .before)))
 
 add-at : tie.Need-add-at
 add-at c = omega (arith, two (c .before .before) .ends, two (c .before .before) .fits)
@@ -113,7 +113,7 @@ add-put-number-2 : tie.Need-add-put-number-2
 add-put-number-2 c = search needs
 
 put-number-requires-4 : tie.Need-put-number-requires-4
-put-number-requires-4 c κs = (omega (arith, c .before .before .before .before .before .before .before .before .before .before .before .position-of .ensures), wrote-free (two (c .before .before .before)) (encode (c .before .before .before .before .before .before .before .before .before .before .before .position-of .result + 2)) (omega (arith, room (c .before .before .before .before .before .before .before .before .before), announced-length (c .before .before .before))))
+put-number-requires-4 c κs = wrote-free (two (c .before .before .before)) (encode (c .before .before .before .before .before .before .before .before .before .before .before .position-of .result + 2)) (omega (arith, room (c .before .before .before .before .before .before .before .before .before), announced-length (c .before .before .before)))
 
 add-result : tie.Need-add-result
 add-result c = omega (arith, c .before .before .before .before .before .before .before .before .before .before .put-number2 .ensures .0, c .before .before .before .before .before .before .put-number3 .ensures .0, c .before .before .put-number4 .ensures .0, room (c .before .before .before .before .before .before .before .before .before .before .before .before))

@@ -23,7 +23,7 @@ abbrev μ-loop : tie.MeasureT-loop
 
 -- the run has rows, all there are
 within : (c : tie.After-run Inv-loop μ-loop) → (0 < c .run .result) × (c .before .before .before .before .before .loop .i + c .run .result ≤ length (c .before .before .before .before .before .before .before .before .before .args .rows .now))
-within c = run-within (c .before .before .before .before .before .before .before .before .before .args .folded .now) (c .before .before .before .before .before .before .before .before .before .args .rows .now) (c .before .before .before .before .before .before .before .before .before .pre .1) (c .before .before .before .before .before .loop .last) (c .before .before .before .before .before .loop .i) (c .before .before .before .before .before .loop .inv .0) (c .before .before .before .before .before .loop .inv .2) (c .before .before .before .before .loop-test .taken) (c .before .before .word-of .result .now) (c .run .result) (c .before .before .word-of .ensures) (c .run .ensures)
+within c = run-within (c .before .before .before .before .before .before .before .before .before .args .folded .now) (c .before .before .before .before .before .before .before .before .before .args .rows .now) (c .before .before .before .before .before .before .before .before .before .pre .0) (c .before .before .before .before .before .loop .last) (c .before .before .before .before .before .loop .i) (c .before .before .before .before .before .loop .inv .0) (c .before .before .before .before .before .loop .inv .2) (c .before .before .before .before .loop-test .taken) (c .before .before .word-of .result .now) (c .run .result) (c .before .before .word-of .ensures) (c .run .ensures)
 
 -- what is written, the run's word and list, and the terms after it
 parts : (c : tie.After-run Inv-loop μ-loop) → ((c .before .before .before .before .before .loop .inv .1 ++ (wordBytes (rowWord (c .before .before .before .before .before .before .before .before .before .args .folded .now) (c .before .before .before .before .before .loop .last)) (c .before .before .word-of .result .now))) ++ (sized (listBytes (c .before .before .before .before .before .before .before .before .before .args .docid) (take (c .before .before .before .before .before .loop .i + c .run .result - c .before .before .before .before .before .loop .i) (drop (c .before .before .before .before .before .loop .i) (c .before .before .before .before .before .before .before .before .before .args .rows .now)))))) ++ (termsFrom (c .before .before .before .before .before .loop .inv .0 - 1) (c .before .before .before .before .before .before .before .before .before .args .folded .now) (c .before .before .before .before .before .before .before .before .before .args .docid) (getD (c .before .before .before .before .before .before .before .before .before .args .rows .now) (c .before .before .before .before .before .loop .i) 0) (drop (c .before .before .before .before .before .loop .i + c .run .result) (c .before .before .before .before .before .before .before .before .before .args .rows .now))) ≡ termsOf (c .before .before .before .before .before .before .before .before .before .args .folded .now) (c .before .before .before .before .before .before .before .before .before .args .docid) (c .before .before .before .before .before .before .before .before .before .args .rows .now)
@@ -31,14 +31,14 @@ parts c =
     let l = c .before .before .before .before .before .loop in
     ap (λ x. x ++ (termsFrom (c .before .before .before .before .before .loop .inv .0 - 1) (c .before .before .before .before .before .before .before .before .before .args .folded .now) (c .before .before .before .before .before .before .before .before .before .args .docid) (getD (c .before .before .before .before .before .before .before .before .before .args .rows .now) (c .before .before .before .before .before .loop .i) 0) (drop (c .before .before .before .before .before .loop .i + c .run .result) (c .before .before .before .before .before .before .before .before .before .args .rows .now)))) (append-assoc (l .inv .1) (wordBytes (rowWord (c .before .before .before .before .before .before .before .before .before .args .folded .now) (c .before .before .before .before .before .loop .last)) (c .before .before .word-of .result .now)) (sized (listBytes (c .before .before .before .before .before .before .before .before .before .args .docid) (take (c .before .before .before .before .before .loop .i + c .run .result - c .before .before .before .before .before .loop .i) (drop (c .before .before .before .before .before .loop .i) (c .before .before .before .before .before .before .before .before .before .args .rows .now))))))
     ∙ append-assoc (l .inv .1) ((wordBytes (rowWord (c .before .before .before .before .before .before .before .before .before .args .folded .now) (c .before .before .before .before .before .loop .last)) (c .before .before .word-of .result .now)) ++ (sized (listBytes (c .before .before .before .before .before .before .before .before .before .args .docid) (take (c .before .before .before .before .before .loop .i + c .run .result - c .before .before .before .before .before .loop .i) (drop (c .before .before .before .before .before .loop .i) (c .before .before .before .before .before .before .before .before .before .args .rows .now)))))) (termsFrom (c .before .before .before .before .before .loop .inv .0 - 1) (c .before .before .before .before .before .before .before .before .before .args .folded .now) (c .before .before .before .before .before .before .before .before .before .args .docid) (getD (c .before .before .before .before .before .before .before .before .before .args .rows .now) (c .before .before .before .before .before .loop .i) 0) (drop (c .before .before .before .before .before .loop .i + c .run .result) (c .before .before .before .before .before .before .before .before .before .args .rows .now)))
-    ∙ ap (λ x. l .inv .1 ++ x) (sym (runs-term (c .before .before .before .before .before .before .before .before .before .args .folded .now) (c .before .before .before .before .before .before .before .before .before .args .rows .now) (c .before .before .before .before .before .before .before .before .before .pre .1) (c .before .before .before .before .before .loop .last) (c .before .before .before .before .before .loop .i) (c .before .before .before .before .before .loop .inv .0) (c .before .before .before .before .before .loop .inv .2) (c .before .before .before .before .loop-test .taken) (c .before .before .word-of .result .now) (c .run .result) (c .before .before .word-of .ensures) (c .run .ensures) (c .before .before .before .before .before .before .before .before .before .args .docid) (c .before .before .before .before .before .loop .i + c .run .result) refl))
+    ∙ ap (λ x. l .inv .1 ++ x) (sym (runs-term (c .before .before .before .before .before .before .before .before .before .args .folded .now) (c .before .before .before .before .before .before .before .before .before .args .rows .now) (c .before .before .before .before .before .before .before .before .before .pre .0) (c .before .before .before .before .before .loop .last) (c .before .before .before .before .before .loop .i) (c .before .before .before .before .before .loop .inv .0) (c .before .before .before .before .before .loop .inv .2) (c .before .before .before .before .loop-test .taken) (c .before .before .word-of .result .now) (c .run .result) (c .before .before .word-of .ensures) (c .run .ensures) (c .before .before .before .before .before .before .before .before .before .args .docid) (c .before .before .before .before .before .loop .i + c .run .result) refl))
     ∙ l .inv .4
 
 -- they fit
 fits : (c : tie.After-run Inv-loop μ-loop) → length (c .before .before .before .before .before .loop .inv .1) + length (wordBytes (rowWord (c .before .before .before .before .before .before .before .before .before .args .folded .now) (c .before .before .before .before .before .loop .last)) (c .before .before .word-of .result .now)) + length (sized (listBytes (c .before .before .before .before .before .before .before .before .before .args .docid) (take (c .before .before .before .before .before .loop .i + c .run .result - c .before .before .before .before .before .loop .i) (drop (c .before .before .before .before .before .loop .i) (c .before .before .before .before .before .before .before .before .before .args .rows .now))))) ≤ length (c .before .before .before .before .before .before .before .before .before .args .out .now)
 fits c =
     let l = c .before .before .before .before .before .loop in
-    omega (arith, c .before .before .before .before .before .before .before .before .before .pre .2, ap length (parts c), length-append ((l .inv .1 ++ (wordBytes (rowWord (c .before .before .before .before .before .before .before .before .before .args .folded .now) (c .before .before .before .before .before .loop .last)) (c .before .before .word-of .result .now))) ++ (sized (listBytes (c .before .before .before .before .before .before .before .before .before .args .docid) (take (c .before .before .before .before .before .loop .i + c .run .result - c .before .before .before .before .before .loop .i) (drop (c .before .before .before .before .before .loop .i) (c .before .before .before .before .before .before .before .before .before .args .rows .now)))))) (termsFrom (c .before .before .before .before .before .loop .inv .0 - 1) (c .before .before .before .before .before .before .before .before .before .args .folded .now) (c .before .before .before .before .before .before .before .before .before .args .docid) (getD (c .before .before .before .before .before .before .before .before .before .args .rows .now) (c .before .before .before .before .before .loop .i) 0) (drop (c .before .before .before .before .before .loop .i + c .run .result) (c .before .before .before .before .before .before .before .before .before .args .rows .now))), length-append (l .inv .1 ++ (wordBytes (rowWord (c .before .before .before .before .before .before .before .before .before .args .folded .now) (c .before .before .before .before .before .loop .last)) (c .before .before .word-of .result .now))) (sized (listBytes (c .before .before .before .before .before .before .before .before .before .args .docid) (take (c .before .before .before .before .before .loop .i + c .run .result - c .before .before .before .before .before .loop .i) (drop (c .before .before .before .before .before .loop .i) (c .before .before .before .before .before .before .before .before .before .args .rows .now))))), length-append (l .inv .1) (wordBytes (rowWord (c .before .before .before .before .before .before .before .before .before .args .folded .now) (c .before .before .before .before .before .loop .last)) (c .before .before .word-of .result .now)))
+    omega (arith, c .before .before .before .before .before .before .before .before .before .pre .1, ap length (parts c), length-append ((l .inv .1 ++ (wordBytes (rowWord (c .before .before .before .before .before .before .before .before .before .args .folded .now) (c .before .before .before .before .before .loop .last)) (c .before .before .word-of .result .now))) ++ (sized (listBytes (c .before .before .before .before .before .before .before .before .before .args .docid) (take (c .before .before .before .before .before .loop .i + c .run .result - c .before .before .before .before .before .loop .i) (drop (c .before .before .before .before .before .loop .i) (c .before .before .before .before .before .before .before .before .before .args .rows .now)))))) (termsFrom (c .before .before .before .before .before .loop .inv .0 - 1) (c .before .before .before .before .before .before .before .before .before .args .folded .now) (c .before .before .before .before .before .before .before .before .before .args .docid) (getD (c .before .before .before .before .before .before .before .before .before .args .rows .now) (c .before .before .before .before .before .loop .i) 0) (drop (c .before .before .before .before .before .loop .i + c .run .result) (c .before .before .before .before .before .before .before .before .before .args .rows .now))), length-append (l .inv .1 ++ (wordBytes (rowWord (c .before .before .before .before .before .before .before .before .before .args .folded .now) (c .before .before .before .before .before .loop .last)) (c .before .before .word-of .result .now))) (sized (listBytes (c .before .before .before .before .before .before .before .before .before .args .docid) (take (c .before .before .before .before .before .loop .i + c .run .result - c .before .before .before .before .before .loop .i) (drop (c .before .before .before .before .before .loop .i) (c .before .before .before .before .before .before .before .before .before .args .rows .now))))), length-append (l .inv .1) (wordBytes (rowWord (c .before .before .before .before .before .before .before .before .before .args .folded .now) (c .before .before .before .before .before .loop .last)) (c .before .before .word-of .result .now)))
 
 -- the word stands in the room
 word : (c : tie.After-put-word Inv-loop μ-loop) → Wrote (c .before .before .before .before .before .before .before .before .before .before .before .before .args .out .now)
@@ -66,7 +66,7 @@ list c =
 loop-holds : tie.Need-loop-holds Inv-loop μ-loop
 loop-holds c =
     let z = c .before .before .before in
-    (length (z .args .rows .now), [], runs-start (z .args .folded .now) (z .args .rows .now) (z .pre .1), record { ends = refl; is = refl; fits = omega arith }, refl)
+    (length (z .args .rows .now), [], runs-start (z .args .folded .now) (z .args .rows .now) (z .pre .0), record { ends = refl; is = refl; fits = omega arith }, refl)
 
 mul-word-of : tie.Need-mul-word-of Inv-loop μ-loop
 mul-word-of c = search needs
@@ -75,7 +75,7 @@ shared-slice-read-word-of : tie.Need-shared-slice-read-word-of Inv-loop μ-loop
 shared-slice-read-word-of c = search needs
 
 word-of-requires : tie.Need-word-of-requires Inv-loop μ-loop
-word-of-requires c κs = c .before .before .before .before .before .before .pre .1 .inside (c .before .before .loop .i) (c .before .loop-test .taken)
+word-of-requires c κs = c .before .before .before .before .before .before .pre .0 .inside (c .before .before .loop .i) (c .before .loop-test .taken)
 
 mul-run : tie.Need-mul-run Inv-loop μ-loop
 mul-run c = search needs
@@ -90,7 +90,7 @@ part-run-end : tie.Need-part-run-end Inv-loop μ-loop
 part-run-end c = search needs
 
 run-requires : tie.Need-run-requires Inv-loop μ-loop
-run-requires c κs = run-inside (c .before .before .before .before .before .before .before .before .args .folded .now) (c .before .before .before .before .before .before .before .before .args .rows .now) (c .before .before .before .before .before .before .before .before .pre .1) (c .before .before .before .before .loop .last) (c .before .before .before .before .loop .i) (c .before .before .before .before .loop .inv .0) (c .before .before .before .before .loop .inv .2) (c .before .before .before .loop-test .taken)
+run-requires c κs = run-inside (c .before .before .before .before .before .before .before .before .args .folded .now) (c .before .before .before .before .before .before .before .before .args .rows .now) (c .before .before .before .before .before .before .before .before .pre .0) (c .before .before .before .before .loop .last) (c .before .before .before .before .loop .i) (c .before .before .before .before .loop .inv .0) (c .before .before .before .before .loop .inv .2) (c .before .before .before .loop-test .taken)
 
 add-next : tie.Need-add-next Inv-loop μ-loop
 add-next c = omega (arith, within c)
@@ -139,8 +139,8 @@ part-put-postings-end-2 c = within (c .before .before .before .before .before .b
 
 put-postings-requires : tie.Need-put-postings-requires Inv-loop μ-loop
 put-postings-requires c κs =
-    let r = run-rows (c .before .before .before .before .before .before .before .before .before .before .before .before .before .before .before .before .args .folded .now) (c .before .before .before .before .before .before .before .before .before .before .before .before .before .before .before .before .args .rows .now) (c .before .before .before .before .before .before .before .before .before .before .before .before .before .before .before .before .pre .1) (c .before .before .before .before .before .before .before .before .before .before .before .before .loop .last) (c .before .before .before .before .before .before .before .before .before .before .before .before .loop .i) (c .before .before .before .before .before .before .before .before .before .before .before .before .loop .inv .0) (c .before .before .before .before .before .before .before .before .before .before .before .before .loop .inv .2) (c .before .before .before .before .before .before .before .before .before .before .before .loop-test .taken) (c .before .before .before .before .before .before .before .before .before .word-of .result .now) (c .before .before .before .before .before .before .before .run .result) (c .before .before .before .before .before .before .before .before .before .word-of .ensures) (c .before .before .before .before .before .before .before .run .ensures) (c .before .before .before .before .before .before .before .before .before .before .before .before .loop .i + c .before .before .before .before .before .before .before .run .result) refl in
-    ((c .before .before .before .before .before .before .before .before .before .before .before .before .before .before .before .before .pre .0, r .0, r .1), wrote-free (word (c .before .before .before .before)) (sized (listBytes (c .before .before .before .before .before .before .before .before .before .before .before .before .before .before .before .before .args .docid) (take (c .before .before .before .before .before .before .before .before .before .before .before .before .loop .i + c .before .before .before .before .before .before .before .run .result - c .before .before .before .before .before .before .before .before .before .before .before .before .loop .i) (drop (c .before .before .before .before .before .before .before .before .before .before .before .before .loop .i) (c .before .before .before .before .before .before .before .before .before .before .before .before .before .before .before .before .args .rows .now))))) (omega (arith, fits (c .before .before .before .before .before .before .before), done-length (c .before .before .before .before .before .before .before))))
+    let r = run-rows (c .before .before .before .before .before .before .before .before .before .before .before .before .before .before .before .before .args .folded .now) (c .before .before .before .before .before .before .before .before .before .before .before .before .before .before .before .before .args .rows .now) (c .before .before .before .before .before .before .before .before .before .before .before .before .before .before .before .before .pre .0) (c .before .before .before .before .before .before .before .before .before .before .before .before .loop .last) (c .before .before .before .before .before .before .before .before .before .before .before .before .loop .i) (c .before .before .before .before .before .before .before .before .before .before .before .before .loop .inv .0) (c .before .before .before .before .before .before .before .before .before .before .before .before .loop .inv .2) (c .before .before .before .before .before .before .before .before .before .before .before .loop-test .taken) (c .before .before .before .before .before .before .before .before .before .word-of .result .now) (c .before .before .before .before .before .before .before .run .result) (c .before .before .before .before .before .before .before .before .before .word-of .ensures) (c .before .before .before .before .before .before .before .run .ensures) (c .before .before .before .before .before .before .before .before .before .before .before .before .loop .i + c .before .before .before .before .before .before .before .run .result) refl in
+    ((r .0, r .1), wrote-free (word (c .before .before .before .before)) (sized (listBytes (c .before .before .before .before .before .before .before .before .before .before .before .before .before .before .before .before .args .docid) (take (c .before .before .before .before .before .before .before .before .before .before .before .before .loop .i + c .before .before .before .before .before .before .before .run .result - c .before .before .before .before .before .before .before .before .before .before .before .before .loop .i) (drop (c .before .before .before .before .before .before .before .before .before .before .before .before .loop .i) (c .before .before .before .before .before .before .before .before .before .before .before .before .before .before .before .before .args .rows .now))))) (omega (arith, fits (c .before .before .before .before .before .before .before), done-length (c .before .before .before .before .before .before .before))))
 
 add-at-2 : tie.Need-add-at-2 Inv-loop μ-loop
 add-at-2 c = omega (arith, list (c .before .before) .ends, list (c .before .before) .fits)
@@ -159,7 +159,7 @@ loop-again c =
     let l = c .before .before .before .before .before .before .before .before .before .before .before .before .before .before .before .before .loop in (
       l .inv .0 - 1,
       (l .inv .1 ++ (wordBytes (rowWord (c .before .before .before .before .before .before .before .before .before .before .before .before .before .before .before .before .before .before .before .before .args .folded .now) (c .before .before .before .before .before .before .before .before .before .before .before .before .before .before .before .before .loop .last)) (c .before .before .before .before .before .before .before .before .before .before .before .before .before .word-of .result .now))) ++ (sized (listBytes (c .before .before .before .before .before .before .before .before .before .before .before .before .before .before .before .before .before .before .before .before .args .docid) (take (c .before .before .before .before .before .before .before .before .before .before .before .before .before .before .before .before .loop .i + c .before .before .before .before .before .before .before .before .before .before .before .run .result - c .before .before .before .before .before .before .before .before .before .before .before .before .before .before .before .before .loop .i) (drop (c .before .before .before .before .before .before .before .before .before .before .before .before .before .before .before .before .loop .i) (c .before .before .before .before .before .before .before .before .before .before .before .before .before .before .before .before .before .before .before .before .args .rows .now))))),
-      runs-next (c .before .before .before .before .before .before .before .before .before .before .before .before .before .before .before .before .before .before .before .before .args .folded .now) (c .before .before .before .before .before .before .before .before .before .before .before .before .before .before .before .before .before .before .before .before .args .rows .now) (c .before .before .before .before .before .before .before .before .before .before .before .before .before .before .before .before .before .before .before .before .pre .1) (c .before .before .before .before .before .before .before .before .before .before .before .before .before .before .before .before .loop .last) (c .before .before .before .before .before .before .before .before .before .before .before .before .before .before .before .before .loop .i) (c .before .before .before .before .before .before .before .before .before .before .before .before .before .before .before .before .loop .inv .0) (c .before .before .before .before .before .before .before .before .before .before .before .before .before .before .before .before .loop .inv .2) (c .before .before .before .before .before .before .before .before .before .before .before .before .before .before .before .loop-test .taken) (c .before .before .before .before .before .before .before .before .before .before .before .before .before .word-of .result .now) (c .before .before .before .before .before .before .before .before .before .before .before .run .result) (c .before .before .before .before .before .before .before .before .before .before .before .before .before .word-of .ensures) (c .before .before .before .before .before .before .before .before .before .before .before .run .ensures) (c .before .before .before .before .before .before .before .before .before .before .before .before .before .before .before .before .loop .i + c .before .before .before .before .before .before .before .before .before .before .before .run .result) refl,
+      runs-next (c .before .before .before .before .before .before .before .before .before .before .before .before .before .before .before .before .before .before .before .before .args .folded .now) (c .before .before .before .before .before .before .before .before .before .before .before .before .before .before .before .before .before .before .before .before .args .rows .now) (c .before .before .before .before .before .before .before .before .before .before .before .before .before .before .before .before .before .before .before .before .pre .0) (c .before .before .before .before .before .before .before .before .before .before .before .before .before .before .before .before .loop .last) (c .before .before .before .before .before .before .before .before .before .before .before .before .before .before .before .before .loop .i) (c .before .before .before .before .before .before .before .before .before .before .before .before .before .before .before .before .loop .inv .0) (c .before .before .before .before .before .before .before .before .before .before .before .before .before .before .before .before .loop .inv .2) (c .before .before .before .before .before .before .before .before .before .before .before .before .before .before .before .loop-test .taken) (c .before .before .before .before .before .before .before .before .before .before .before .before .before .word-of .result .now) (c .before .before .before .before .before .before .before .before .before .before .before .run .result) (c .before .before .before .before .before .before .before .before .before .before .before .before .before .word-of .ensures) (c .before .before .before .before .before .before .before .before .before .before .before .run .ensures) (c .before .before .before .before .before .before .before .before .before .before .before .before .before .before .before .before .loop .i + c .before .before .before .before .before .before .before .before .before .before .before .run .result) refl,
       list (c .before .before .before),
       parts (c .before .before .before .before .before .before .before .before .before .before .before),
     )
@@ -171,7 +171,7 @@ returns : tie.Need-returns Inv-loop μ-loop
 returns c =
     let z = c .before .before .before .before .before in
     let l = c .before .loop in
-    let e = sym (append-nil (l .inv .1)) ∙ ap (λ x. l .inv .1 ++ x) (sym (runs-end (z .args .folded .now) (z .args .rows .now) (z .pre .1) (l .last) (l .i) (l .inv .0) (l .inv .2) (z .args .docid) (c .loop-test .left))) ∙ l .inv .4 in
+    let e = sym (append-nil (l .inv .1)) ∙ ap (λ x. l .inv .1 ++ x) (sym (runs-end (z .args .folded .now) (z .args .rows .now) (z .pre .0) (l .last) (l .i) (l .inv .0) (l .inv .2) (z .args .docid) (c .loop-test .left))) ∙ l .inv .4 in
     l .inv .3 .is ∙ ap (λ x. over x (z .args .out .now)) e
 
 pub put-terms-spec : {M : Type 1} → statement M

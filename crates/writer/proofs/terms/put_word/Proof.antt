@@ -31,7 +31,7 @@ put-number-requires : tie.Need-put-number-requires
 put-number-requires c κs =
     let a = c .before .before .before .before .before .args in
     let e = c .before .shared-prefix .ensures in
-    (omega (arith, within (c .before)), omega (arith, c .before .before .before .before .before .pre, word-length (a .before .now) (a .w .now), ap (λ p. length (encode p)) e))
+    omega (arith, c .before .before .before .before .before .pre, word-length (a .before .now) (a .w .now), ap (λ p. length (encode p)) e)
 
 sub-put-sized : tie.Need-sub-put-sized
 sub-put-sized c = wrote-within (prefix (c .before .before))

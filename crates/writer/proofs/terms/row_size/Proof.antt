@@ -3,6 +3,7 @@ use native.Mathlib.Omega.{arith}
 use mathlib.Core.Path.{sym, ap, _∙_}
 use Prim.Native.Nat.{_+_}
 use lib.ListN.{length}
+use Rattle.varint.specs.Varint.{maxVarint}
 use Rattle.varint.proofs.Laws.{encode-most}
 use Rattle.writer.proofs.Lists.{row-same, row-other-length}
 use borrow.Author.Needs.{needs}
@@ -45,7 +46,7 @@ size-requires-3 : tie.Need-size-requires-3
 size-requires-3 c κs = search needs
 
 add-result : tie.Need-add-result
-add-result c = omega (arith, c .before .size2 .ensures, c .size3 .ensures, encode-most 9 1, encode-most 9 (c .before .before .before .before .before .column-of .result))
+add-result c = omega (arith, c .before .size2 .ensures, c .size3 .ensures, encode-most maxVarint 1, encode-most maxVarint (c .before .before .before .before .before .column-of .result))
 
 add-size-2 : tie.Need-add-size-2
 add-size-2 c = search needs
@@ -54,7 +55,7 @@ size-requires-4 : tie.Need-size-requires-4
 size-requires-4 c κs = search needs
 
 add-result-2 : tie.Need-add-result-2
-add-result-2 c = omega (arith, c .before .before .size2 .ensures, c .before .size3 .ensures, c .size4 .ensures, encode-most 9 1, encode-most 9 (c .before .before .before .before .before .before .column-of .result), encode-most 9 (c .before .before .before .before .before .position-of .result + 2))
+add-result-2 c = omega (arith, c .before .before .size2 .ensures, c .before .size3 .ensures, c .size4 .ensures, encode-most maxVarint 1, encode-most maxVarint (c .before .before .before .before .before .before .column-of .result), encode-most maxVarint (c .before .before .before .before .before .position-of .result + 2))
 
 returns-2 : tie.Need-returns-2
 returns-2 c =

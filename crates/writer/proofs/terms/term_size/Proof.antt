@@ -2,6 +2,7 @@
 use native.Mathlib.Omega.{arith}
 use Prim.Native.Nat.{_-_, _≤_}
 use lib.ListN.{length}
+use Rattle.varint.specs.Varint.{maxVarint}
 use Rattle.varint.proofs.Laws.{encode-most}
 use Rattle.writer.proofs.Lists.{list-most}
 use Rattle.writer.proofs.TermLaws.{prefix-within, term-sized}
@@ -10,13 +11,13 @@ use Rattle.writer.proofs.terms.term_size.Statement.{statement}
 use Rattle.writer.proofs.terms.term_size.Tie as tie
 
 -- the sizes are those of the parts, and none is too large
-sizes : (c : tie.After-size2) → (c .before .size .result ≤ 9) × (c .size2 .result ≤ 9)
-sizes c = omega (arith, c .before .size .ensures, c .size2 .ensures, encode-most 9 (c .before .before .before .shared-prefix .result), encode-most 9 (length (c .before .before .before .before .before .before .before .args .w .now) - c .before .before .before .shared-prefix .result))
+sizes : (c : tie.After-size2) → (c .before .size .result ≤ 10) × (c .size2 .result ≤ 10)
+sizes c = omega (arith, c .before .size .ensures, c .size2 .ensures, encode-most maxVarint (c .before .before .before .shared-prefix .result), encode-most maxVarint (length (c .before .before .before .before .before .before .before .args .w .now) - c .before .before .before .shared-prefix .result))
 
-list : (c : tie.After-size3) → (c .size3 .result ≤ 9) × (c .before .before .before .list-size .result ≤ 110610)
+list : (c : tie.After-size3) → (c .size3 .result ≤ 10) × (c .before .before .before .list-size .result ≤ 122900)
 list c =
     let z = c .before .before .before .before .before .before .before .before in
-    omega (arith, c .size3 .ensures, encode-most 9 (c .before .before .before .list-size .result), c .before .before .before .list-size .ensures, list-most (z .args .docid) (z .args .rows .now), z .pre .1)
+    omega (arith, c .size3 .ensures, encode-most maxVarint (c .before .before .before .list-size .result), c .before .before .before .list-size .ensures, list-most (z .args .docid) (z .args .rows .now), z .pre .1)
 
 shared-prefix-requires : tie.Need-shared-prefix-requires
 shared-prefix-requires c κs = search needs
