@@ -1,4 +1,4 @@
--- The marked examples P7 to P11 hold.
+-- The marked examples P7 to P11 hold, and that of document 02, §9.
 use Prim.Native.Nat.{ℕ}
 use mathlib.Core.Path.{_≡_, refl}
 use Rattle.common.specs.Pick.{pick}
@@ -21,5 +21,5 @@ pub examples : AllHold marked
 unfolding checkFrom encodeIn readFrom
 examples = (
   (λ count l h. rw (within-true 1 maxColumns count l h) refl, refl),
-  ((λ count l h. rw (within-true 1 maxColumns count l h) refl, refl), (refused, (refused, (refused, tt)))),
+  ((λ count l h. rw (within-true 1 maxColumns count l h) refl, refl), (refused, (refused, (refused, ((λ count l h. rw (within-true 1 maxColumns count l h) refl, refl), tt))))),
 )

@@ -1,10 +1,10 @@
--- The examples of posting lists that document 01 marks: P7 to P11. Bytes are given as the document prints them, in sixteens.
--- The document names no number of columns, and each example holds for every one. A list is claimed in both directions:
--- these bytes are accepted, and they are its encoding.
+-- The examples of posting lists that document 01 marks: P7 to P11; and document 02's, of §9: -1 is nine FF and 01. Bytes are given as
+-- the documents print them, in sixteens. They name no number of columns, and each example holds for every one. A list is claimed in
+-- both directions: these bytes are accepted, and they are its encoding.
 use Prim.Native.Nat.{ℕ, _≤_}
 use mathlib.Core.Path.{_≡_}
 use mathlib.Core.List.{List, [], _∷_}
-use lib.IntN.{pos}
+use lib.IntN.{pos, negsuc}
 use Rattle.common.specs.Marked.{Example}
 use Rattle.common.specs.Bounds.{maxColumns}
 use Rattle.doclist.specs.Docid.{keyOf}
@@ -28,6 +28,10 @@ once = record { docid = keyOf (pos 7); columns = record { column = 0; positions 
 abbrev pub deletion : Entry
 deletion = record { docid = keyOf (pos 7); columns = [] }
 
+-- document 02, §9, counted on after §3's: a deletion in docid -1, which is `negsuc 0`
+abbrev pub belowZero : Entry
+belowZero = record { docid = keyOf (negsuc 0); columns = [] }
+
 abbrev pub marked : List Example
 marked =
     record { number = 7; claim = Listed (0x07 ∷ 0x02 ∷ 0x00 ∷ []) (once ∷ []) }
@@ -35,4 +39,8 @@ marked =
     ∷ record { number = 9; claim = NotListed (0x07 ∷ 0x02 ∷ 0x02 ∷ 0x00 ∷ []) }
     ∷ record { number = 10; claim = NotListed (0x07 ∷ 0x02 ∷ 0x00 ∷ 0x00 ∷ 0x02 ∷ 0x00 ∷ []) }
     ∷ record { number = 11; claim = NotListed (0x07 ∷ 0x01 ∷ 0x00 ∷ 0x02 ∷ 0x00 ∷ []) }
+    ∷ record {
+      number = 17;
+      claim = Listed (0xFF ∷ 0xFF ∷ 0xFF ∷ 0xFF ∷ 0xFF ∷ 0xFF ∷ 0xFF ∷ 0xFF ∷ 0xFF ∷ 0x01 ∷ 0x00 ∷ []) (belowZero ∷ []);
+    }
     ∷ []
