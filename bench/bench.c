@@ -64,7 +64,7 @@ static const double CHECK_LIMIT = 1.2, GROWTH_LIMIT = 2.4, WORST_LIMIT = 2e6;
 
 struct index {
     uint8_t leaves[MAX_BYTES];
-    uint32_t ends[MAX_LEAVES];
+    uint32_t ends[MAX_LEAVES], levels[MAX_LEAVES], indexes[MAX_LEAVES];
     size_t count;
     sqlite3 *db;
 };
@@ -122,6 +122,11 @@ static void load(struct index *x, const char *folder)
     do
         snprintf(path, sizeof path, "%s/leaf%zu.bin", folder, x->count);
     while (x->count < MAX_LEAVES && read_leaf(x, path));
+    /* the files come newest first; all are on level 0, as SQLite left them */
+    for (size_t i = 0; i < x->count; i++) {
+        x->levels[i] = 0;
+        x->indexes[i] = (uint32_t)(x->count - 1 - i);
+    }
     snprintf(path, sizeof path, "%s/index.db", folder);
     x->db = NULL;
     if (sqlite3_open_v2(path, &x->db, SQLITE_OPEN_READONLY, NULL) != SQLITE_OK)
@@ -155,7 +160,7 @@ static double box_search(const struct index *x, const char *query, uint64_t *fou
 {
     double start = now();
     uint32_t answer = fts4_search((const uint8_t *)NAMES, strlen(NAMES), NAME_ENDS, COLUMNS, x->leaves, size_of(x), x->ends, x->count,
-                                  (const uint8_t *)query, strlen(query), room, ROOM, found);
+                                  x->levels, x->count, x->indexes, x->count, (const uint8_t *)query, strlen(query), room, ROOM, found);
     double spent = now() - start;
     if (answer != FTS4_ACCEPTED)
         fail("a search is refused");

@@ -1,10 +1,11 @@
 /* Measures searches and the check with two builds of the library in one run, interleaved; the best of each counts.
  *
- *     beside LIBRARY OTHER FOLDER    shared libraries; FOLDER has the leaves of one index, newest first, as make_index.py makes them
+ *     beside [--other-1.4] LIBRARY OTHER FOLDER    shared libraries; FOLDER has the leaves of one index, newest first, as make_index.py
+ *                                                  makes them; --other-1.4: OTHER is of version 1.4
  */
+#include "builds.h"
 #include "fts4box.h"
 
-#include <dlfcn.h>
 #include <stdio.h>
 #include <stdlib.h>
 #include <string.h>
@@ -23,11 +24,9 @@ static const char *const QUERIES[] = {
 enum { QUERY_COUNT = sizeof QUERIES / sizeof *QUERIES };
 
 typedef uint32_t check_call(const uint8_t *, size_t, uint32_t, uint64_t *);
-typedef uint32_t search_call(const uint8_t *, size_t, const uint32_t *, size_t, const uint8_t *, size_t, const uint32_t *, size_t,
-                             const uint8_t *, size_t, int64_t *, size_t, uint64_t *);
 
 static uint8_t leaves[FTS4_MAX_BYTES];
-static uint32_t ends[FTS4_MAX_LEAVES];
+static uint32_t ends[FTS4_MAX_LEAVES], levels[FTS4_MAX_LEAVES], indexes[FTS4_MAX_LEAVES];
 static size_t count;
 static int64_t room[FTS4_SEARCH_ROOM];
 
@@ -35,14 +34,6 @@ static void fail(const char *what)
 {
     fprintf(stderr, "beside: %s\n", what);
     exit(2);
-}
-
-static void *symbol(void *library, const char *name)
-{
-    void *found = dlsym(library, name);
-    if (!found)
-        fail("a library has not the calls");
-    return found;
 }
 
 static void load(const char *folder)
@@ -61,6 +52,9 @@ static void load(const char *folder)
     }
     if (count == 0)
         fail("the folder has no leaf");
+    /* all on level 0, as SQLite left them */
+    for (size_t i = 0; i < count; i++)
+        indexes[i] = (uint32_t)(count - 1 - i);
 }
 
 static double now(void)
@@ -73,8 +67,8 @@ static double now(void)
 static uint64_t search(search_call *call, const char *query)
 {
     uint64_t found;
-    if (call(NAMES, sizeof NAMES - 1, NAME_ENDS, COLUMNS, leaves, ends[count - 1], ends, count, (const uint8_t *)query, strlen(query), room,
-             FTS4_SEARCH_ROOM, &found) != FTS4_ACCEPTED)
+    if (call(NAMES, sizeof NAMES - 1, NAME_ENDS, COLUMNS, leaves, ends[count - 1], ends, count, levels, count, indexes, count,
+             (const uint8_t *)query, strlen(query), room, FTS4_SEARCH_ROOM, &found) != FTS4_ACCEPTED)
         fail("a query is refused");
     return found;
 }
@@ -95,19 +89,23 @@ static void row(const char *what, const double best[LIBRARIES])
 
 int main(int argc, char **argv)
 {
-    if (argc != 2 + LIBRARIES)
-        fail("usage: beside LIBRARY OTHER FOLDER");
+    int is_1_4 = argc > 1 && !strcmp(argv[1], OF_1_4);
+    char **words = argv + 1 + is_1_4;
+    if (argc != 2 + LIBRARIES + is_1_4)
+        fail("usage: beside [" OF_1_4 "] LIBRARY OTHER FOLDER");
     search_call *searches[LIBRARIES];
     check_call *checks[LIBRARIES];
     for (int k = 0; k < LIBRARIES; k++) {
-        void *library = dlopen(argv[1 + k], RTLD_NOW | RTLD_LOCAL);
+        void *library = dlopen(words[k], RTLD_NOW | RTLD_LOCAL);
         if (!library)
             fail(dlerror());
-        void *first = symbol(library, "fts4_search"), *second = symbol(library, "fts4_check");
-        memcpy(&searches[k], &first, sizeof first);
-        memcpy(&checks[k], &second, sizeof second);
+        void *check_symbol = dlsym(library, "fts4_check");
+        searches[k] = search_of(library, k > 0 && is_1_4);
+        if (!searches[k] || !check_symbol)
+            fail("a library has not the calls");
+        memcpy(&checks[k], &check_symbol, sizeof check_symbol);
     }
-    load(argv[1 + LIBRARIES]);
+    load(words[LIBRARIES]);
 
     printf("| best of %d | this µs | the other µs | this / the other |\n|---|---|---|---|\n", ROUNDS);
     double best[LIBRARIES] = { 1e18, 1e18 };

@@ -1,8 +1,8 @@
 #!/usr/bin/env bash
 # Measures searches and the check, over 3,200 probe rows in 8 leaves of real SQLite, beside another build of the static library that
-# has the same calls.
+# has the same calls, or those of version 1.4.
 #
-#     bash bench/beside.sh [--built] OTHER.a    --built: the static library is built already
+#     bash bench/beside.sh [--built] [--other-1.4] OTHER.a    --built: the static library is built already; --other-1.4: OTHER.a is of version 1.4
 set -euo pipefail
 cd "$(dirname "$0")/.."
 
@@ -11,8 +11,13 @@ if [ "${1:-}" = --built ]; then
     built=yes
     shift
 fi
+version=()
+if [ "${1:-}" = --other-1.4 ]; then
+    version=("$1")
+    shift
+fi
 if [ $# -ne 1 ]; then
-    echo "usage: bash bench/beside.sh [--built] OTHER.a" >&2
+    echo "usage: bash bench/beside.sh [--built] [--other-1.4] OTHER.a" >&2
     exit 2
 fi
 
@@ -27,4 +32,4 @@ for archive in target/staticlib/libfts4box.a "$1"; do
 done
 python3 bench/make_index.py "$work" > "$work/index.log"
 cc -O2 -Wall -Wextra -Werror -I include -o "$work/beside" bench/beside.c -ldl
-"$work/beside" "${libraries[@]}" "$work/3200"
+"$work/beside" "${version[@]}" "${libraries[@]}" "$work/3200"

@@ -1,11 +1,11 @@
 /* Measures how long a query takes to be read: each has a closing parenthesis too much at its end, so that it is read whole and
  * then refused, and no search is done. Libraries are measured in one run, interleaved; the best of each counts.
  *
- *     reading LIBRARY [OTHER]    shared libraries with fts4_search
+ *     reading [--other-1.4] LIBRARY [OTHER]    shared libraries with fts4_search; --other-1.4: OTHER is of version 1.4
  */
+#include "builds.h"
 #include "fts4box.h"
 
-#include <dlfcn.h>
 #include <stdio.h>
 #include <stdlib.h>
 #include <string.h>
@@ -15,10 +15,7 @@ enum { ROUNDS = 2000, CALLS = 20, LIBRARIES = 2, QUERIES = 8, ROOM = 1 };
 
 static const uint8_t NAMES[] = "nodesentoutcome";
 static const uint32_t NAME_ENDS[] = {4, 8, 15};
-static const uint32_t NO_ENDS[1];
-
-typedef uint32_t search_call(const uint8_t *, size_t, const uint32_t *, size_t, const uint8_t *, size_t, const uint32_t *, size_t,
-                             const uint8_t *, size_t, int64_t *, size_t, uint64_t *);
+static const uint32_t NO_NUMBERS[1];
 
 struct query {
     const char *what;
@@ -31,16 +28,14 @@ static void fail(const char *what)
     exit(2);
 }
 
-static search_call *load(const char *path)
+static search_call *load(const char *path, int is_1_4)
 {
     void *library = dlopen(path, RTLD_NOW | RTLD_LOCAL);
     if (!library)
         fail(dlerror());
-    void *symbol = dlsym(library, "fts4_search");
-    if (!symbol)
+    search_call *call = search_of(library, is_1_4);
+    if (!call)
         fail("the library has no fts4_search");
-    search_call *call;
-    memcpy(&call, &symbol, sizeof call);
     return call;
 }
 
@@ -55,7 +50,8 @@ static uint32_t read_query(search_call *call, const char *text)
 {
     int64_t room[ROOM];
     uint64_t second;
-    return call(NAMES, sizeof NAMES - 1, NAME_ENDS, 3, NAMES, 0, NO_ENDS, 0, (const uint8_t *)text, strlen(text), room, ROOM, &second);
+    return call(NAMES, sizeof NAMES - 1, NAME_ENDS, 3, NAMES, 0, NO_NUMBERS, 0, NO_NUMBERS, 0, NO_NUMBERS, 0, (const uint8_t *)text,
+                strlen(text), room, ROOM, &second);
 }
 
 /* Appends a part, so often. */
@@ -70,12 +66,12 @@ static void add(struct query *q, const char *part, int times)
 
 int main(int argc, char **argv)
 {
-    if (argc < 2 || argc > 1 + LIBRARIES)
-        fail("usage: reading LIBRARY [OTHER]");
-    int libraries = argc - 1;
+    int is_1_4 = argc > 1 && !strcmp(argv[1], OF_1_4), libraries = argc - 1 - is_1_4;
+    if (libraries < 1 + is_1_4 || libraries > LIBRARIES)
+        fail("usage: reading [" OF_1_4 "] LIBRARY [OTHER]");
     search_call *calls[LIBRARIES];
     for (int k = 0; k < libraries; k++)
-        calls[k] = load(argv[1 + k]);
+        calls[k] = load(argv[1 + is_1_4 + k], k > 0 && is_1_4);
 
     struct query queries[QUERIES] = {
         {"one word", ""},

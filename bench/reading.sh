@@ -1,7 +1,7 @@
 #!/usr/bin/env bash
 # Measures how long queries take to be read, and beside them, in the same run, with another build of the static library.
 #
-#     bash bench/reading.sh [--built] [OTHER.a]    --built: the static library is built already
+#     bash bench/reading.sh [--built] [--other-1.4] [OTHER.a]    --built: the static library is built already; --other-1.4: OTHER.a is of version 1.4
 set -euo pipefail
 cd "$(dirname "$0")/.."
 
@@ -10,8 +10,13 @@ if [ "${1:-}" = --built ]; then
     built=yes
     shift
 fi
+version=()
+if [ "${1:-}" = --other-1.4 ]; then
+    version=("$1")
+    shift
+fi
 if [ $# -gt 1 ]; then
-    echo "usage: bash bench/reading.sh [--built] [OTHER.a]" >&2
+    echo "usage: bash bench/reading.sh [--built] [--other-1.4] [OTHER.a]" >&2
     exit 2
 fi
 
@@ -25,4 +30,4 @@ for archive in target/staticlib/libfts4box.a "$@"; do
     libraries+=("$work/${#libraries[@]}.so")
 done
 cc -O2 -Wall -Wextra -Werror -I include -o "$work/reading" bench/reading.c -ldl
-"$work/reading" "${libraries[@]}"
+"$work/reading" "${version[@]}" "${libraries[@]}"

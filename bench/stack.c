@@ -16,7 +16,7 @@ enum { STACK = 4 << 20, PATTERN = 0xA5, MAX_BYTES = 65536, MAX_LEAVES = 8, MAX_Q
 static uint8_t *stack;
 static uint8_t leaves[MAX_BYTES], texts[MAX_TEXTS], bytes_room[ROOM];
 static int64_t docid_room[ROOM];
-static uint32_t leaf_ends[MAX_LEAVES], text_ends[16];
+static uint32_t leaf_ends[MAX_LEAVES], levels[MAX_LEAVES], indexes[MAX_LEAVES], text_ends[16];
 static size_t leaves_len, leaf_count, texts_len, text_count;
 static const char *query;
 static const uint8_t names[] = "nodesentoutcome";
@@ -51,7 +51,7 @@ static void write_leaf(void)
 
 static void search(void)
 {
-    fts4_search(names, sizeof names - 1, name_ends, 3, leaves, leaves_len, leaf_ends, leaf_count,
+    fts4_search(names, sizeof names - 1, name_ends, 3, leaves, leaves_len, leaf_ends, leaf_count, levels, leaf_count, indexes, leaf_count,
                 (const uint8_t *)query, strlen(query), docid_room, ROOM, &second);
 }
 
@@ -101,6 +101,7 @@ static void add_leaf(size_t list, int rows)
         at[i] = rows ? "\x01\x02"[i % 3] : i > 1 ? 3 : (uint8_t)(i + 1);
     at[list - 1] = 0;
     leaves_len = (size_t)(at + list - leaves);
+    indexes[leaf_count] = (uint32_t)leaf_count; /* oldest first */
     leaf_ends[leaf_count++] = (uint32_t)leaves_len;
 }
 

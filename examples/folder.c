@@ -23,7 +23,7 @@ enum { MOST_LINE = 4096, MOST_FILE_NAME = 255, MOST_PATH = 4096, HASH_DIGITS = 6
 
 struct file {
     char name[MOST_FILE_NAME + 1];
-    uint64_t level, index, size;
+    uint64_t size;
 };
 
 struct manifest {
@@ -34,13 +34,15 @@ struct manifest {
     struct file files[FTS4_MAX_LEAVES];
 };
 
-/* What is lent to the box: byte strings one after the other, and where each ends. */
+/* What is lent to the box: byte strings one after the other, and where each ends; of each leaf its level and index, which say how old
+ * it is. */
 struct lent {
     uint8_t names[FTS4_MAX_COLUMNS * FTS4_MAX_NAME];
     uint32_t name_ends[FTS4_MAX_COLUMNS];
     size_t names_len;
     uint8_t leaves[FTS4_MAX_BYTES];
     uint32_t leaf_ends[FTS4_MAX_LEAVES];
+    uint32_t levels[FTS4_MAX_LEAVES], indexes[FTS4_MAX_LEAVES];
     size_t leaves_len;
 };
 
@@ -102,7 +104,7 @@ static const char *value_of(struct manifest *manifest, const char *key)
 
     next_line(manifest);
     if (strncmp(manifest->line, key, length) != 0 || manifest->line[length] != ' ' || manifest->line[length + 1] == '\0')
-        stop("manifest.txt", manifest->line_number, "is not `%s` with a value", key);
+        stop("manifest.txt", manifest->line_number, "is not `%s` with a value: export again", key);
     return manifest->line + length + 1;
 }
 
@@ -132,7 +134,7 @@ static void read_head(struct manifest *manifest)
     const char *prepared;
 
     if (strcmp(value_of(manifest, "fts4box export"), "1") != 0)
-        wrong(manifest, "the export is of another version");
+        wrong(manifest, "the export is of another version: export again");
     value_of(manifest, "database");
     value_of(manifest, "table");
     value_of(manifest, "sqlite");
@@ -172,15 +174,14 @@ static void read_file_name(struct manifest *manifest, size_t at)
     strcpy(manifest->files[at].name, name);
 }
 
-/* Newest first: the level rises, and on a level the index falls. So no pair comes twice. */
-static void check_order(const struct manifest *manifest, size_t at)
+/* Leaves come in any order, but of two with the same pair none is the newer one. */
+static void read_age(struct manifest *manifest, struct lent *lent, size_t at)
 {
-    const struct file *file = &manifest->files[at];
-
-    if (at == 0)
-        return;
-    if (file->level < file[-1].level || (file->level == file[-1].level && file->index >= file[-1].index))
-        wrong(manifest, "the leaf is not older than the one before it");
+    lent->levels[at] = (uint32_t)number_of(manifest, "level", 0, UINT32_MAX);
+    lent->indexes[at] = (uint32_t)number_of(manifest, "index", 0, UINT32_MAX);
+    for (size_t i = 0; i < at; i++)
+        if (lent->levels[i] == lent->levels[at] && lent->indexes[i] == lent->indexes[at])
+            wrong(manifest, "another leaf has this level and index: export again");
 }
 
 static void read_hash(struct manifest *manifest, const char *key)
@@ -191,7 +192,7 @@ static void read_hash(struct manifest *manifest, const char *key)
         wrong(manifest, "the hash is not 64 digits 0 to 9 and a to f");
 }
 
-static void read_files(struct manifest *manifest)
+static void read_files(struct manifest *manifest, struct lent *lent)
 {
     uint64_t left = FTS4_MAX_BYTES;
 
@@ -200,9 +201,7 @@ static void read_files(struct manifest *manifest)
         struct file *file = &manifest->files[i];
 
         read_file_name(manifest, i);
-        file->level = number_of(manifest, "level", 0, INT64_MAX);
-        file->index = number_of(manifest, "index", 0, INT64_MAX);
-        check_order(manifest, i);
+        read_age(manifest, lent, i);
         number_of(manifest, "start", 0, INT64_MAX);
         file->size = number_of(manifest, "size", 0, FTS4_MAX_BYTES);
         if (file->size > left)
@@ -217,7 +216,7 @@ static void read_manifest(const char *folder, struct manifest *manifest, struct 
     manifest->input = opened(folder, "manifest.txt");
     read_head(manifest);
     read_columns(manifest, lent);
-    read_files(manifest);
+    read_files(manifest, lent);
     read_hash(manifest, "end");
     if (fgetc(manifest->input) != EOF)
         wrong(manifest, "something comes after this line");
@@ -252,8 +251,10 @@ static int search(const struct manifest *manifest, const struct lent *lent, cons
 {
     static int64_t room[FTS4_SEARCH_ROOM];
     uint64_t second;
-    uint32_t answer = fts4_search(lent->names, lent->names_len, lent->name_ends, manifest->columns, lent->leaves, lent->leaves_len,
-                                  lent->leaf_ends, manifest->leaves, (const uint8_t *)query, strlen(query), room, FTS4_SEARCH_ROOM, &second);
+    size_t leaves = manifest->leaves;
+    uint32_t answer = fts4_search(lent->names, lent->names_len, lent->name_ends, manifest->columns, lent->leaves, lent->leaves_len, lent->leaf_ends,
+                                  leaves, lent->levels, leaves, lent->indexes, leaves, (const uint8_t *)query, strlen(query), room,
+                                  FTS4_SEARCH_ROOM, &second);
 
     if (answer != FTS4_ACCEPTED) {
         printf("refused %" PRIu32 " %" PRIu64 "\n", answer, second);

@@ -18,6 +18,8 @@ int main(void)
         0, 5, 'r', 'e', 'p', 'l', 'y', 6, 7, 1, 2, 2, 3, 0,
     };
     static const uint32_t leaf_ends[] = {sizeof leaf};
+    /* a leaf's age; with one leaf it says nothing */
+    static const uint32_t levels[] = {0}, indexes[] = {0};
     /* three names in one slice, and where each ends */
     static const uint8_t names[] = "nodesentoutcome";
     static const uint32_t name_ends[] = {4, 8, 15};
@@ -25,7 +27,7 @@ int main(void)
     int64_t room[ROOM];
     uint64_t second;
 
-    uint32_t answer = fts4_search(names, sizeof names - 1, name_ends, 3, leaf, sizeof leaf, leaf_ends, 1,
+    uint32_t answer = fts4_search(names, sizeof names - 1, name_ends, 3, leaf, sizeof leaf, leaf_ends, 1, levels, 1, indexes, 1,
                                   query, sizeof query - 1, room, ROOM, &second);
     if (answer != FTS4_ACCEPTED) {
         printf("refused %" PRIu32 " %" PRIu64 "\n", answer, second);

@@ -9,7 +9,10 @@
  *
  * Lending. A slice is a pointer and a length, counted in elements; NULL goes with length 0. Several byte strings are lent as
  * one slice with a list of 32-bit ends: the ends never fall, none passes the slice's length, and the last equals it; an
- * empty list goes only with an empty slice. Leaves come newest first.
+ * empty list goes only with an empty slice.
+ *
+ * Age. The leaves of a search come in any order, each with its level and its index, as SQLite's %_segdir has them (level, idx). A
+ * leaf is newer than another if its level is lower, or the levels are the same and its index is higher. No two have the same pair.
  *
  * What a caller must keep (it is not checked): every pointer is aligned and has so many elements from it on; the numbers to be
  * stored are not NULL; a room and those numbers do not overlap each other or an input.
@@ -34,8 +37,8 @@ extern "C" {
 #endif
 
 /* A change of a signature or of what a call answers raises the version. The number is 100 times its first part plus the second. */
-#define FTS4BOX_VERSION "1.4"
-#define FTS4BOX_VERSION_NUMBER 104
+#define FTS4BOX_VERSION "1.5"
+#define FTS4BOX_VERSION_NUMBER 105
 
 /* The bounds: what is over one is refused. */
 #define FTS4_MAX_QUERY 512      /* bytes of a query */
@@ -54,9 +57,9 @@ extern "C" {
 
 enum {
     FTS4_ACCEPTED = 0, /* second: docids listed, bytes written, or bytes in the part */
-    FTS4_SHAPE = 1,    /* ends, names, counts, sizes or a word's length; second is 0 */
+    FTS4_SHAPE = 1,    /* ends, names, counts, sizes, levels and indexes or a word's length; second is 0 */
     FTS4_QUERY = 2,    /* the query is not in the language or over a bound of it; second is 0 */
-    FTS4_LEAF = 3,     /* a leaf breaks a rule; second is the first such leaf, counted from 0, newest first */
+    FTS4_LEAF = 3,     /* a leaf breaks a rule; second is the first such leaf, counted from 0 in the order lent */
     FTS4_ROOM = 4,     /* the room is too small; second is what is needed */
     FTS4_WORD = 5      /* a document word over 64 bytes; second is the first column that has one */
 };
@@ -94,13 +97,15 @@ uint32_t fts4_write(int64_t docid, const uint8_t *texts, size_t texts_len, const
 
 /* Lists the docids of all rows that satisfy a query, rising as signed numbers, each once.
  *
- * Lent are 1 to 16 column names (1 to 32 ASCII letters, digits or _, no two equal when case is ignored), 0 to 8 leaves, newest
- * first and together at most 65,536 bytes, and a query of at most 512 bytes in the enhanced syntax.
+ * Lent are 1 to 16 column names (1 to 32 ASCII letters, digits or _, no two equal when case is ignored), 0 to 8 leaves of together
+ * at most 65,536 bytes, in any order, a level and an index for each leaf, in the order of the leaves, and a query of at most 512
+ * bytes in the enhanced syntax.
  *
- * Answers 0 with the count of docids; or, checked in this order, 1; 2; 3 with the first leaf that breaks a rule; 4 with the
- * count of docids. */
+ * Answers 0 with the count of docids; or, checked in this order, 1; 2; 3 with the first leaf that breaks a rule, in the order
+ * lent; 4 with the count of docids. The same leaves with the same pairs give the same list in every order. */
 uint32_t fts4_search(const uint8_t *names, size_t names_len, const uint32_t *name_ends, size_t name_ends_len,
                      const uint8_t *leaves, size_t leaves_len, const uint32_t *leaf_ends, size_t leaf_ends_len,
+                     const uint32_t *levels, size_t levels_len, const uint32_t *indexes, size_t indexes_len,
                      const uint8_t *query, size_t query_len, int64_t *room, size_t room_len, uint64_t *second);
 
 #ifdef __cplusplus

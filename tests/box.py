@@ -46,17 +46,17 @@ class Box:
 
     def __init__(self, archive=fts4box.ARCHIVE):
         self.library = fts4box.load(archive)
-        self.inputs = [Arena(MOST_INPUT) for _ in range(5)]
+        self.inputs = [Arena(MOST_INPUT) for _ in range(7)]
         self.room = Arena(MOST_ROOM)
         self.numbers = [Arena(NUMBER_SIZE) for _ in range(3)]
         self.at_end = True
         self.null = False
 
     def lend(self, *parts):
-        """Addresses and lengths of inputs, as a call takes them."""
+        """Addresses and lengths of inputs, as a call takes them: bytes, or lists of 32-bit numbers."""
         out = []
         for arena, data in zip(self.inputs, parts):
-            raw = b"".join(end.to_bytes(4, "little") for end in data) if isinstance(data, list) else data
+            raw = b"".join(number.to_bytes(4, "little") for number in data) if isinstance(data, list) else data
             out += [None if self.null and not data else arena.place(raw, self.at_end), len(data)]
         return out
 
@@ -89,10 +89,10 @@ class Box:
         number = self.library.fts4_write(docid, *self.lend(texts, ends), room, room_len, second)
         return number, number_at(second, 8), ctypes.string_at(room, room_len) if room_len else b""
 
-    def search(self, names, name_ends, leaves, leaf_ends, query, room_len):
+    def search(self, names, name_ends, leaves, leaf_ends, levels, indexes, query, room_len):
         (second,) = self.lend_numbers(8)
         room = self.lend_room(8 * room_len)
-        number = self.library.fts4_search(*self.lend(names, name_ends, leaves, leaf_ends, query), room, room_len, second)
+        number = self.library.fts4_search(*self.lend(names, name_ends, leaves, leaf_ends, levels, indexes, query), room, room_len, second)
         docids = list((ctypes.c_int64 * room_len).from_address(room)) if room_len else []
         return number, number_at(second, 8), docids
 

@@ -13,8 +13,9 @@ class Cases:
         self.asked = bytearray()
         self.lines = []
 
-    def ask(self, kind, n=0, m=0, first=b"", first_ends=(), second=b"", second_ends=(), short=b""):
-        """One case: every case has all parts, and those that it does not need are 0 or empty."""
+    def ask(self, kind, n=0, m=0, first=b"", first_ends=(), second=b"", second_ends=(), pairs=(), short=b""):
+        """One case: every case has all parts but the pairs, and those that it does not need are 0 or empty. Pairs are the two lists of levels and
+        indexes, and only a search has them."""
         self.number(kind)
         self.number(n)
         self.number(m)
@@ -22,6 +23,8 @@ class Cases:
         self.ends(first_ends)
         self.field(second)
         self.ends(second_ends)
+        for numbers in pairs:
+            self.ends(numbers)
         self.field(short)
 
     def number(self, n):

@@ -21,7 +21,7 @@ def file_name(names, leaves, level, index):
 
 
 def manifest(names, leaves):
-    """The manifest's lines; leaves are (level, index, bytes), newest first."""
+    """The manifest's lines; leaves are (level, index, bytes), in any order."""
     lines = [
         "fts4box export 1", "database bench.db", "table probes", "sqlite 3.40.1", "time 2026-11-16T01:55:00Z", "prepared no",
         "columns %d" % len(names), *("column " + name for name in names), "leaves %d" % len(leaves),

@@ -4,9 +4,9 @@
     python3 tests/make_cases.py            write them
     python3 tests/make_cases.py --check    fail if the committed ones differ from what would be written
 
-A case is the number of what it asks for, two numbers, two fields with their ends, and a short field (case_writer.py). A
-number takes eight bytes, the highest first; a field is its length and its bytes; ends are their count and four bytes each.
-The number 0 ends the input. The seeds are fixed.
+A case is the number of what it asks for, two numbers, two fields with their ends, in a search the levels and the indexes, and a
+short field (case_writer.py). A number takes eight bytes, the highest first; a field is its length and its bytes; ends, levels and
+indexes are their count and four bytes each. The number 0 ends the input. The seeds are fixed.
 """
 import os
 import sys

@@ -13,7 +13,7 @@ import paths  # noqa: F401
 import leaf_format
 from leaf_format import (
     MAX_DOCID_BYTES, MAX_LEAF_BYTES, MAX_LEAVES, MAX_WORD_BYTES,
-    columns_ok, fold, is_word_byte, live_entries, name_ok, next_run, shared_prefix, words,
+    age, columns_ok, fold, is_word_byte, live_entries, name_ok, next_run, shared_prefix, words,
 )
 
 MAX_QUERY_BYTES = 512
@@ -686,26 +686,48 @@ def leaves_ok(leaves, leaf_ends):
     return cut(leaves, leaf_ends) is not None
 
 
-def search(names, name_ends, leaves, leaf_ends, query, room_len):
+def pairs_ok(levels, indexes, count):
+    """Whether each of so many leaves has a level and an index, and no two have the same.
+
+    Document 02, section 11.
+    """
+    if len(levels) != count or len(indexes) != count:
+        return False
+    return len(set(zip(levels, indexes))) == count
+
+
+def newest_first(lent, levels, indexes):
+    """What is lent with these levels and indexes, sorted by age.
+
+    Document 02, section 11.
+    """
+    order = sorted(range(len(lent)), key=lambda place: age(levels[place], indexes[place]))
+    return [lent[place] for place in order]
+
+
+def search(names, name_ends, leaves, leaf_ends, levels, indexes, query, room_len):
     """The search's answer and its room, checks 1, 2, 3, 4 in that order.
 
     Document 01, "Numbers of the answers" and "When a row satisfies a query";
-    document 02, section 9: docids rise as signed numbers.
+    document 02, section 9: docids rise as signed numbers; section 11: age
+    comes from the pairs, and number 3 counts in the order lent.
     """
     empty = [0] * room_len
     if not names_ok(names, name_ends) or not leaves_ok(leaves, leaf_ends):
+        return SHAPE, 0, empty
+    if not pairs_ok(levels, indexes, len(leaf_ends)):
         return SHAPE, 0, empty
     name_list = cut(names, name_ends)
     tree = read_query(query, name_list)
     if tree is None:
         return QUERY, 0, empty
     parsed = []
-    for index, leaf in enumerate(cut(leaves, leaf_ends)):
+    for place, leaf in enumerate(cut(leaves, leaf_ends)):
         terms = parse_leaf(leaf, len(name_list))
         if terms is None:
-            return LEAF, index, empty
+            return LEAF, place, empty
         parsed.append(terms)
-    docids = sorted(matching(live_entries(parsed), tree))
+    docids = sorted(matching(live_entries(newest_first(parsed, levels, indexes)), tree))
     if len(docids) > room_len:
         return ROOM, len(docids), empty
     return ACCEPTED, len(docids), docids + [0] * (room_len - len(docids))
@@ -717,7 +739,8 @@ def search(names, name_ends, leaves, leaf_ends, query, room_len):
 def one_search(query, leaf):
     """What the program writes; a None is a query or a leaf that can't be read.
 
-    Document 01, "Marked examples", last paragraph.
+    Document 01, "Marked examples", last paragraph. Its one leaf is lent with
+    level 0 and index 0.
     """
     if leaf is None:
         return "no leaf\n"
@@ -727,7 +750,7 @@ def one_search(query, leaf):
         return "refused 2 0\n"
     names = b"".join(PROGRAM_COLUMNS)
     name_ends = [4, 8, 15]
-    number, beside, room = search(names, name_ends, leaf, [len(leaf)], query, PROGRAM_ROOM)
+    number, beside, room = search(names, name_ends, leaf, [len(leaf)], [0], [0], query, PROGRAM_ROOM)
     if number != ACCEPTED:
         return "refused %d %d\n" % (number, beside)
     lines = ["docs %d" % beside] + [str(docid) for docid in room[:beside]]

@@ -1,9 +1,12 @@
 """Compared cases of the search."""
+import itertools
 import random
 
+import lending
 import reference
 from case_writer import SEARCH, joined
 from generated import EDGES, LEAST_DOCID, TOP_DOCID, some_docid
+from leaf_format import MAX_U32
 
 SEED = 20265
 NAMES = [b"node", b"sent", b"outcome"]
@@ -17,13 +20,18 @@ QUERIES = [
 
 
 def ask(cases, query, leaves, room, names=NAMES, name_ends=None, leaf_ends=None):
-    """The room's size is handed in; the program fills it with other numbers beforehand."""
+    """Leaves come newest first; their order of lending and their pairs follow from the case's number."""
+    data, ends, levels, indexes = lending.lent(random.Random(len(cases.lines)), leaves)
+    ask_lent(cases, query, (data, ends if leaf_ends is None else leaf_ends, levels, indexes), room, names, name_ends)
+
+
+def ask_lent(cases, query, lent, room, names=NAMES, name_ends=None):
+    """Leaves as they are lent. The room's size is handed in; the program fills it with other numbers beforehand."""
     names_data, ends = joined(names)
-    leaves_data, cuts = joined(leaves)
     name_ends = ends if name_ends is None else name_ends
-    leaf_ends = cuts if leaf_ends is None else leaf_ends
-    cases.ask(SEARCH, room, first=names_data, first_ends=name_ends, second=leaves_data, second_ends=leaf_ends, short=query)
-    expect(cases, *reference.search(names_data, name_ends, leaves_data, leaf_ends, query, room))
+    leaves, leaf_ends, *pairs = lent
+    cases.ask(SEARCH, room, first=names_data, first_ends=name_ends, second=leaves, second_ends=leaf_ends, pairs=pairs, short=query)
+    expect(cases, *reference.search(names_data, name_ends, *lent, query, room))
 
 
 def expect(cases, number, beside, after):
@@ -32,8 +40,13 @@ def expect(cases, number, beside, after):
     cases.expect(number, beside, *(docid % 2**64 for docid in listed), sum(1 for d in after[len(listed):] if d != 0))
 
 
+def count_of(query, lent):
+    """How many docids an accepted search lists."""
+    return reference.search(*joined(NAMES), *lent, query, 0)[1]
+
+
 def ask_rooms(cases, query, leaves):
-    count = reference.search(*joined(NAMES), *joined(leaves), query, 0)[1]
+    count = count_of(query, lending.in_order(leaves))
     for room in {0, max(count - 1, 0), count, count + 3}:
         ask(cases, query, leaves, room)
 
@@ -54,7 +67,7 @@ def probe(rng, docid):
     return docid, [b"n%d" % rng.randrange(1, 5), b"t%d" % (docid * 7 % 40), outcome]
 
 
-def indexes(cases, rng):
+def changes(cases, rng):
     """Rows inserted, updated and deleted over several leaves, on both sides of 0."""
     for _ in range(40):
         rows, leaves = {}, []
@@ -119,7 +132,7 @@ def silence(cases):
     """312 rows, 40 of them silence; then the list of "timeout" damaged at each place, and its length lowered."""
     rows = [(d, [b"", b"", b"no reply, timeout" if d % 7 == 0 and d < 281 else b"reply"]) for d in range(1, 313)]
     leaf = leaf_of(rows)
-    assert reference.search(*joined(NAMES), *joined([leaf]), VERDICT, SILENCE_ROOM)[:2] == (0, 272)
+    assert reference.search(*joined(NAMES), *lending.in_order([leaf]), VERDICT, SILENCE_ROOM)[:2] == (0, 272)
     ask(cases, VERDICT, [leaf], SILENCE_ROOM)
     start, end = [(a, e) for term, _, a, e in reference.parse_leaf(leaf, 3) if term == b"timeout"][0]
     for at in range(start, end):
@@ -179,11 +192,11 @@ def signs(cases):
     rows = list(zip(EDGES, texts))
     other = [(docid, texts[-1 - n]) for n, docid in enumerate(EDGES)]
     alone = [leaf_of([row]) for row in rows]
-    indexes = [
+    several = [
         [leaf_of(rows)], alone, alone[::-1], [leaf_of(rows[::2]), leaf_of(rows[1::2])], [leaf_of(rows[3:]), leaf_of(rows[:4])], [leaf_of(other), leaf_of(rows)],
         [leaf_of(other[:3]), leaf_of(other[-2:]), leaf_of(rows)], [leaf_of(rows[:3])], [leaf_of(rows[-3:]), leaf_of(other)],
     ]
-    for leaves in indexes:
+    for leaves in several:
         for query in SIGNED:
             ask_rooms(cases, query, leaves)
     for docid, text in rows:
@@ -221,7 +234,7 @@ def many_lists(cases, rng):
                 lists += [(word, entries)] if entries else []
             leaves.append(reference.encode_leaf(lists))
         for query in (b"w*", b"w0* w1* w2* w3*", b"w0* NOT w1*", b"w1* NEAR/1 w3*", b"w15 OR w39", b"w05 w06", b"w00 NOT w39", b'"w* w2*"', b"w3* NOT (w0* OR w1*)"):
-            count = reference.search(*joined(NAMES), *joined(leaves), query, 0)[1]
+            count = count_of(query, lending.in_order(leaves))
             for room in {max(count - 1, 0), count}:
                 ask(cases, query, leaves, room)
 
@@ -242,6 +255,79 @@ def broken_docids(cases):
                 ask(cases, b"a", leaves, room)
 
 
+# document 02, section 11: the pairs of eight leaves, each list newest first
+ONE_LEVEL = [(0, index) for index in reversed(range(8))]
+OWN_LEVELS = [(level, level) for level in range(8)]
+MIXED = [(0, 1), (0, 0), (1, 3), (2, 15), (2, 2), (2, 0), (1023, 9), (1023, 8)]
+EXTREMES = [(0, MAX_U32), (0, 0), (MAX_U32, MAX_U32), (MAX_U32, 0)]
+# on both sides of what a signed number of 32 bits can be
+HALVES = [(2**31 - 1, 0), (2**31, 2**31), (2**31, 2**31 - 1), (2**31 + 1, 0)]
+# over leaves that tell their order
+TELLING = [b"node:w", b"d", b"w NOT d", b"w"]
+
+
+def ask_order(cases, leaves, pairs, order):
+    """The leaves with their pairs, lent in this order, with room enough and one too little."""
+    lent = lending.as_lent([leaves[place] for place in order], [pairs[place] for place in order])
+    for query in TELLING:
+        count = count_of(query, lent)
+        for room in {max(count - 1, 0), count}:
+            ask_lent(cases, query, lent, room)
+
+
+def orders(cases, rng):
+    """All orders of lending three and four leaves; eight leaves in some orders. Which leaf has which pair is drawn for each list of pairs."""
+    for count in (3, 4):
+        for pairs in (ONE_LEVEL, OWN_LEVELS, MIXED, EXTREMES, HALVES):
+            dated = rng.sample(pairs[:count], count)
+            for order in itertools.permutations(range(count)):
+                ask_order(cases, lending.telling_leaves(count), dated, order)
+    eight = range(8)
+    for pairs in (ONE_LEVEL, OWN_LEVELS, MIXED):
+        dated = rng.sample(pairs, 8)
+        for order in (eight, eight[::-1], *(rng.sample(eight, 8) for _ in range(6))):
+            ask_order(cases, lending.telling_leaves(8), dated, order)
+
+
+def equal_pairs(cases):
+    """Two leaves with the same pair, side by side and apart; with the same level alone, and the same index alone. First among other faults."""
+    for count in (2, 3, 8):
+        leaves = lending.telling_leaves(count)
+        for one, other in itertools.combinations(range(count), 2):
+            for level, index in ((one, 0), (one, 1), (count, 0)):
+                pairs = [(place, 0) for place in range(count)]
+                pairs[other] = level, index
+                for room in (0, 30):
+                    ask_lent(cases, b"w", lending.as_lent(leaves, pairs), room)
+    for pair in ((0, 0), (0, MAX_U32), (MAX_U32, 0), (MAX_U32, MAX_U32)):
+        for count in (2, 8):
+            ask_lent(cases, b"w", lending.as_lent(lending.telling_leaves(count), [pair] * count), 5)
+    for query in (b"w", b"w AND"):
+        for leaves in (lending.telling_leaves(2), [b"", b""]):
+            for names in (NAMES, [b"a", b"A", b"b"]):
+                for pairs in ([(3, 3), (3, 3)], [(3, 3), (3, 4)]):
+                    ask_lent(cases, query, lending.as_lent(leaves, pairs), 0, names)
+
+
+def lengths(cases):
+    """Lists of levels and indexes that are too short, too long, empty: one of them, both, by the same and by other lengths."""
+    many = lending.telling_leaves(8)
+    for count in (0, 1, 3, 8):
+        for levels, indexes in itertools.product(sorted({0, 1, max(count - 1, 0), count, count + 1, 32}), repeat=2):
+            ask_lent(cases, b"w", (*joined(many[:count]), list(range(levels)), list(range(indexes))), 30)
+
+
+def broken_places(cases):
+    """A broken leaf at each place of the lending, and another at the last: whichever is newer, the first lent is told."""
+    good = leaf_of([(d, [b"n1", b"t", b"reply"]) for d in range(1, 6)])
+    for count in range(1, 9):
+        for bad in range(count):
+            leaves = [good[:-1] if place in (bad, count - 1) else good for place in range(count)]
+            for pairs in (ONE_LEVEL, ONE_LEVEL[::-1], OWN_LEVELS, MIXED[1::2] + MIXED[::2]):
+                for room in (0, 5):
+                    ask_lent(cases, b"reply", lending.as_lent(leaves, pairs[:count]), room)
+
+
 def make(cases):
     rng = random.Random(SEED)
     positions(cases)
@@ -250,7 +336,11 @@ def make(cases):
     last_docid(cases)
     many_lists(cases, rng)
     broken_docids(cases)
-    indexes(cases, rng)
+    changes(cases, rng)
     shapes(cases)
     faults(cases)
+    orders(cases, random.Random(SEED))
+    equal_pairs(cases)
+    lengths(cases)
+    broken_places(cases)
     silence(cases)

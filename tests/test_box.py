@@ -3,8 +3,9 @@
 
     python3 tests/test_box.py [CALLS [SEED]]
 
-Inputs, rooms and numbers lie against guard pages. The report counts by call and answer; each answer that a call can give must
-be at least 1 % of its cases, and so must answers on docids below 0; those on the least and the largest docid at least 0.1 %.
+Inputs, rooms and numbers lie against guard pages. Leaves are lent in some order, with pairs of level and index that say their age. The report
+counts by call and answer; each answer that a call can give must be at least 1 % of its cases, and so must answers on docids below 0, and lists that would be
+others if age were the order lent; those on the least and the largest docid at least 0.1 %.
 """
 import collections
 import faulthandler
@@ -12,6 +13,7 @@ import random
 import sys
 
 import generated
+import lending
 import query_cases
 import reference
 from box import Box
@@ -95,6 +97,22 @@ def deciding(rng):
     if kind < 4:
         docid = min(docid + 1, TOP_DOCID) if kind else rng.choice(EDGES)
     return newer, older, columns, word, docid
+
+
+def other_pairs(rng, levels, indexes):
+    """Lists of another length than there are leaves, or two leaves with the same pair; where there is one leaf or none, always the first."""
+    lists = [list(levels), list(indexes)]
+    if len(levels) > 1 and rng.randrange(2):
+        one, other = rng.sample(range(len(levels)), 2)
+        for numbers in lists:
+            numbers[other] = numbers[one]
+        return lists
+    for numbers in rng.choice((lists[:1], lists[1:], lists)):
+        if numbers and rng.randrange(2):
+            del numbers[rng.randrange(len(numbers)):]
+        else:
+            numbers += [lending.some_number(rng)] * rng.choice((1, 9, 300))
+    return lists
 
 
 def other_ends(rng, data, ends):
@@ -185,8 +203,10 @@ def some_names(rng):
 
 def search(rng, pool):
     names, name_ends = joined(some_names(rng))
-    leaves, leaf_ends = joined(some_leaves(rng, pool))
-    asked = names, some_ends(rng, names, name_ends), leaves, some_ends(rng, leaves, leaf_ends), some_query(rng)
+    leaves, leaf_ends, *pairs = lending.lent(rng, some_leaves(rng, pool))
+    if rng.randrange(24) == 0:
+        pairs = other_pairs(rng, *pairs)
+    asked = names, some_ends(rng, names, name_ends), leaves, some_ends(rng, leaves, leaf_ends), *pairs, some_query(rng)
     if rng.randrange(3):
         return *asked, rng.choice((0, 1, 2, 4, 16, 40))
     need = reference.search(*asked, 0)[1]
@@ -214,7 +234,7 @@ def large(tally, box):
             tally.check("deciding in %d bytes" % total, box.deciding(*asked), reference.deciding(*asked))
             for query in (b"no NEAR/1 timeout", b"w* OR n1"):
                 for room in (2298, 2299, 4096):
-                    asked = *names, *joined([half, full]), query, room
+                    asked = *names, *lending.in_order([half, full]), query, room
                     tally.check("search in %d bytes" % total, box.search(*asked), reference.search(*asked))
 
 
@@ -225,7 +245,7 @@ def many_lists(tally, box):
     tally.check("bytes of the leaf with many lists", 60000 < len(wide) <= 65536, True)
     for query in (b"w*", b"w0* NOT absent", b"w0* NEAR/3 w1*", b"node:w2*", b"w2298 NOT w2297", b"w2297 w2298", b"w2298 w2299"):
         for room in (1, 2):
-            asked = *joined(NAMES), *joined([wide]), query, room
+            asked = *joined(NAMES), *lending.in_order([wide]), query, room
             tally.check("search in many lists", box.search(*asked), reference.search(*asked))
     for n in (0, 1, 2, 2299):
         for docid in (LEAST_DOCID, -1, 0, TOP_DOCID):
@@ -260,7 +280,7 @@ def long_rows(tally, box, rng):
     found = 0
     for _ in range(200):
         leaves = [long_leaf(rng) for _ in range(rng.randrange(1, 3))]
-        asked = *joined(NAMES), *joined(leaves), long_query(rng), rng.choice((0, 1, 8))
+        asked = *joined(NAMES), *lending.lent(rng, leaves), long_query(rng), rng.choice((0, 1, 8))
         answer = box.search(*asked)
         found += answer[1]
         tally.check("search in long rows", answer, reference.search(*asked))
@@ -278,6 +298,8 @@ NOT_EMPTY = "0 and not empty"
 # What is found, written or listed has a docid below 0; the least one; the largest one.
 BELOW, LEAST, LARGEST = "0 and below 0", "0 and the least docid", "0 and the largest docid"
 WITH_DOCIDS = "deciding", "write", "search"
+# The list is not that of the leaves as they are lent, were these newest first.
+BY_AGE = "0 and by age"
 
 
 def docids_of(name, asked, got):
@@ -285,6 +307,12 @@ def docids_of(name, asked, got):
     if got[0] != 0 or got[1] == 0:
         return []
     return got[2][:got[1]] if name == "search" else [asked[0] if name == "write" else asked[4]]
+
+
+def by_age(asked, got):
+    """Whether the pairs decide what is listed."""
+    names, name_ends, leaves, leaf_ends, levels, _, *rest = asked
+    return got[0] == 0 and reference.search(names, name_ends, leaves, leaf_ends, list(range(len(levels))), [0] * len(levels), *rest) != got
 
 
 def counted(counts, name, asked, got):
@@ -295,12 +323,14 @@ def counted(counts, name, asked, got):
         counts[BELOW] += any(docid < 0 for docid in docids)
         counts[LEAST] += LEAST_DOCID in docids
         counts[LARGEST] += TOP_DOCID in docids
+    if name == "search":
+        counts[BY_AGE] += by_age(asked, got)
 
 
 def kinds_of(name):
     if name == "check":
         return POSSIBLE[name]
-    return *POSSIBLE[name], NOT_EMPTY, *((BELOW, LEAST, LARGEST) if name in WITH_DOCIDS else ())
+    return *POSSIBLE[name], NOT_EMPTY, *((BELOW, LEAST, LARGEST) if name in WITH_DOCIDS else ()), *((BY_AGE,) if name == "search" else ())
 
 
 def report(tally, counts):

@@ -2,6 +2,7 @@
 """tools/count.py, status by status, beside SQLite's own counts; and that it notices a folder which is not as it says."""
 import json
 import os
+import re
 import shutil
 import sqlite3
 import subprocess
@@ -15,6 +16,11 @@ from tally import Tally
 
 TOOL = os.path.join(paths.TOOLS, "count.py")
 COUNTED, REFUSED, NOT_EXPORTABLE, FAILED = range(4)
+OTHER_TEXTS = {
+    "column": lambda text: text.replace("column sent", "column went"),
+    "level": lambda text: text.replace("level 0", "level 1"),
+    "no pairs": lambda text: re.sub("^(level|index) .*\n", "", text, flags=re.M),
+}
 QUERIES = ["outcome:reply NOT outcome:timeout", "timeout", "n1* late", '"no reply"', "absent", "(n3 OR n4) reply", "ünode"]
 
 
@@ -97,9 +103,9 @@ def failed(tally, path, folder):
 
 
 def damaged(tally, place, folder):
-    """A byte changed, a leaf removed, a leaf renumbered, a column's name changed: no count."""
+    """A byte changed, a leaf removed, a leaf renumbered, a column's name or a level changed, levels and indexes left out: no count."""
     leaf = sorted(name for name in os.listdir(folder) if name.endswith(".leaf"))
-    for what in ("byte", "removed", "renumbered", "column"):
+    for what in ("byte", "removed", "renumbered", *OTHER_TEXTS):
         other = os.path.join(place, what)
         shutil.copytree(folder, other)
         first, manifest = os.path.join(other, leaf[0]), os.path.join(other, "manifest.txt")
@@ -116,21 +122,64 @@ def damaged(tally, place, folder):
             with open(manifest, encoding="ascii") as f:
                 text = f.read()
             with open(manifest, "w", encoding="ascii") as f:
-                f.write(text.replace("column sent", "column went"))
+                f.write(OTHER_TEXTS[what](text))
         status, out, said = ran("--folder", other, "reply")
         tally.check("%s: %s" % (what, said), (status, out), (NOT_EXPORTABLE, ""))
+        tally.check("what to do, %s: %s" % (what, said), what in ("removed", "renumbered") or "export again" in said, True)
 
 
 def python_calls(tally):
-    """Text is not taken where bytes are wanted."""
+    """Text is not taken where bytes are wanted, nor what has no 32 bits where numbers are."""
     library = fts4box.load()
-    for names, leaves, query in ((["node"], [], b"x"), ([b"node"], ["x"], b"x"), ([b"node"], [], "x"), ([b"node"], [None], b"x")):
+    leaf = b"\0\1x\3\7\2\0"
+    for asked, said in (
+        ((["node"], [], [], [], b"x"), "bytes are wanted"), (([b"node"], ["x"], [0], [0], b"x"), "bytes are wanted"), (([b"node"], [], [], [], "x"), "bytes are wanted"),
+        (([b"node"], [None], [0], [0], b"x"), "bytes are wanted"),
+        *(((([b"node"], [leaf], *pair, b"x")), "a number from 0") for number in (-1, 2**32, 2**64, 1.0, "0", None, True) for pair in (([number], [0]), ([0], [number]))),
+    ):
         try:
-            fts4box.search(library, names, leaves, query)
-            tally.fail("text is taken for bytes: %r" % ((names, leaves, query),))
+            fts4box.search(library, *asked)
+            tally.fail("taken: %r" % (asked,))
         except TypeError as error:
-            tally.check("what is said", "bytes are wanted" in str(error), True)
-    tally.check("bytes are taken", fts4box.search(library, [b"node"], [], b"x"), (0, 0, []))
+            tally.check("what is said of %r" % (asked,), said in str(error), True)
+    tally.check("bytes are taken", fts4box.search(library, [b"node"], [], [], [], b"x"), (0, 0, []))
+    for level, index in ((0, 0), (2**32 - 1, 0), (0, 2**32 - 1)):
+        tally.check("and numbers", fts4box.search(library, [b"node"], [leaf], [level], [index], b"x"), (0, 1, [7]))
+
+
+# the calls of version 1.4, which took leaves without levels and indexes; the number stored is one that no caller expects
+VERSION_1_4 = """
+#include <stddef.h>
+#include <stdint.h>
+void fts4_check(void) {}
+void fts4_lookup(void) {}
+void fts4_deciding(void) {}
+void fts4_write(void) {}
+uint32_t fts4_search(const uint8_t *names, size_t names_len, const uint32_t *name_ends, size_t name_ends_len, const uint8_t *leaves, size_t leaves_len,
+                     const uint32_t *leaf_ends, size_t leaf_ends_len, const uint8_t *query, size_t query_len, int64_t *room, size_t room_len, uint64_t *second)
+{
+    (void)names, (void)names_len, (void)name_ends, (void)name_ends_len, (void)leaves, (void)leaves_len, (void)leaf_ends, (void)leaf_ends_len, (void)query;
+    for (size_t i = 0; i < room_len; i++)
+        room[i] = 0;
+    *second = UINT64_MAX;
+    return query_len == 0 ? 2 : 0;
+}
+"""
+
+
+def other_version(tally):
+    """A library of version 1.4 is noticed before anything is asked of it."""
+    with tempfile.TemporaryDirectory() as place:
+        source, compiled, archive = (os.path.join(place, name) for name in ("calls.c", "calls.o", "calls.a"))
+        with open(source, "w", encoding="ascii") as f:
+            f.write(VERSION_1_4)
+        subprocess.run(["cc", "-fPIC", "-Wall", "-Wextra", "-Werror", "-c", "-o", compiled, source], check=True)
+        subprocess.run(["ar", "rc", archive, compiled], check=True)
+        try:
+            fts4box.load(archive)
+            tally.fail("a library of version 1.4 is taken")
+        except fts4box.NoLibrary as error:
+            tally.check("what is said: %s" % error, [part for part in (archive, "another version", "rt staticlib fts4box") if part not in str(error)], [])
 
 
 def main():
@@ -147,6 +196,7 @@ def main():
         damaged(tally, place, folder)
         base.close()
     python_calls(tally)
+    other_version(tally)
     return tally.finish()
 
 

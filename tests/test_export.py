@@ -1,5 +1,6 @@
 #!/usr/bin/env python3
 """tools/export_leaves.py: each of its refusals, sound tables, what it writes, and that folders which are not as they say are noticed."""
+import itertools
 import os
 import shutil
 import sqlite3
@@ -85,6 +86,13 @@ def stored(*numbers):
     return run("update t_segdir set root = ?", leaf_of_list(varints(*numbers)))
 
 
+def same_pairs(base):
+    """A directory without SQLite's own key, in which all segments have the same level and index."""
+    base.execute("alter table t_segdir rename to segdir")
+    base.execute("create table t_segdir as select * from segdir")
+    base.execute("update t_segdir set level = 1, idx = 2")
+
+
 PLAIN = "create virtual table t using fts4(node, sent, outcome)"
 
 
@@ -130,6 +138,12 @@ REFUSALS = [
     (PLAIN, all_of(one_transaction(3), run("update t_segdir set root = null")), 65536, ("damaged",)),
     (PLAIN, all_of(one_transaction(3), run("update t_segdir set level = 1024")), 65536, ("level 1024", "another language")),
     (PLAIN, all_of(one_transaction(3), run("update t_segdir set level = -1")), 65536, ("damaged",)),
+    # what is no level or index of the box's 32 bits; and which of two is newer can't be told
+    (PLAIN, all_of(one_transaction(3), run("update t_segdir set level = 4294967296")), 65536, ("level 4294967296", "another language")),
+    (PLAIN, all_of(one_transaction(3), run("update t_segdir set idx = -1")), 65536, ("damaged",)),
+    (PLAIN, all_of(one_transaction(3), run("update t_segdir set idx = 'x'")), 65536, ("damaged",)),
+    (PLAIN, all_of(transactions(3), run("update t_segdir set idx = 4294967296 where idx = 2")), 65536, ("index 4294967296", "up to 4294967295", "--prepare", "'rebuild'")),
+    (PLAIN, all_of(transactions(3), same_pairs), 65536, ('3 rows of "t_segdir"', "level 1, index 2", "damaged")),
     (PLAIN, all_of(one_transaction(3), run("delete from t_segdir")), 65536, ("the word", "rows")),
     (PLAIN, all_of(one_transaction(3), run("update t_content set c2outcome = 'late' where docid = 2")), 65536, ("the word `late`", "'rebuild'")),
     (PLAIN, all_of(one_transaction(3), run("delete from t_content where docid = 2")), 65536, ("the word", "rows")),
@@ -244,8 +258,8 @@ def words(leaf):
     return sorted(int(term[1:]) for term, _, _, _ in leaf_format.read_leaf(leaf.data, 3) if term[:1] == b"w")
 
 
-def order(tally):
-    """Newest first: the segments of the lower level, the highest index first, then those merged from 16."""
+def ages(tally):
+    """Each leaf has the level and the index of its segment: 0 for those of single transactions, 1 for those merged from 16."""
     with tempfile.TemporaryDirectory() as folder:
         out = os.path.join(folder, "out")
         path = database(folder, PLAIN, transactions(34))
@@ -254,8 +268,9 @@ def order(tally):
         tally.check("two levels", levels, [(0, 2), (1, 2)])
         tally.check("export", exported(path, "t", out), (EXPORTED, ""))
         export = export_folder.read(out)
-        tally.check("order", [words(leaf) for leaf in export.leaves], [[33], [32], list(range(16, 32)), list(range(16))])
-        tally.check("ages", [(leaf.level, leaf.index) for leaf in export.leaves], [(0, 1), (0, 0), (1, 1), (1, 0)])
+        # the box needs no order; readers before version 1.5 want the newest first
+        said = [(leaf.level, leaf.index, words(leaf)) for leaf in export.leaves]
+        tally.check("ages", said, [(0, 1, [33]), (0, 0, [32]), (1, 1, list(range(16, 32))), (1, 0, list(range(16)))])
         base.execute("insert into t(t) values ('optimize')")
         base.close()
         tally.check("an export is not written over", exported(path, "t", out)[0], REFUSED)
@@ -264,6 +279,20 @@ def order(tally):
         tally.check("nothing of the first stays", [words(leaf) for leaf in export_folder.read(out).leaves], [list(range(34))])
         tally.check("files", sorted(os.listdir(out)), ["leaf0.bin", "manifest.txt"])
         tally.check("nothing beside it", sorted(os.listdir(folder)), ["out", "table.db"])
+
+
+def far_pairs(tally):
+    """The oldest segment on the last level of a table's own index, and the newest, a deletion, with the largest index that the box takes."""
+    fill = all_of(
+        transactions(3), run("delete from t where docid = 1"), run("update t_segdir set level = 1023 where idx = 0"), run("update t_segdir set idx = 4294967295 where idx = 3"),
+    )
+    with tempfile.TemporaryDirectory() as folder:
+        out = os.path.join(folder, "out")
+        tally.check("far pairs", exported(database(folder, PLAIN, fill), "t", out), (EXPORTED, ""))
+        leaves = export_folder.read(out).leaves
+        tally.check("as they are", {(leaf.level, leaf.index) for leaf in leaves}, {(0, 2**32 - 1), (0, 1), (0, 2), (1023, 0)})
+        for lent in (leaves, leaves[::-1], leaves[2:] + leaves[:2]):
+            tally.check("their rows, whatever the order", sorted(export_leaves.live_places(lent, 3)[b"late"]), [2, 3])
 
 
 def program_says(folder):
@@ -406,11 +435,12 @@ def changed_nothing(tally):
 
 
 def prepared(tally):
-    """What --prepare is for: small pages, many segments, a merge under way, WAL. It says what it did."""
+    """What --prepare is for: small pages, many segments, a merge under way, WAL, an index over 32 bits. It says what it did."""
     fills = [
         (one_transaction(400), 1024), (transactions(12), 65536), (all_of(transactions(20, 20), run("insert into t(t) values ('merge=1,2')")), 512),
         (all_of(run("pragma journal_mode=wal"), transactions(10)), 4096), (all_of(one_transaction(100), run("delete from t where docid > 10")), 1024),
-        (one_transaction(1500), 8192),
+        (one_transaction(1500), 8192), (all_of(transactions(3), run("update t_segdir set idx = 4294967296 where idx = 2")), 65536),
+        (all_of(one_transaction(3), run("update t_segdir set idx = 4294967296")), 65536),
     ]
     for fill, page_size in fills:
         with tempfile.TemporaryDirectory() as folder:
@@ -442,6 +472,48 @@ def refused(folder):
         return export_folder.read(folder)
     except export_folder.Refused:
         return "refused"
+
+
+def said_of(folder):
+    """Why a folder is refused; nothing where it is not."""
+    try:
+        export_folder.read(folder)
+        return ""
+    except export_folder.Refused as refused:
+        return str(refused)
+
+
+def order_of_leaves(tally):
+    """Leaves come in any order; without their levels and indexes, with one that is none, or with one pair twice, the folder is refused, and it is said what to do."""
+    with tempfile.TemporaryDirectory() as place:
+        folder = os.path.join(place, "folder")
+        exported(database(place, PLAIN, transactions(3)), "t", folder)
+        export = export_folder.read(folder)
+
+        def put(text):
+            """The manifest with a digest of its own."""
+            body = text[:text.rfind(b"\n", 0, -1) + 1]
+            with open(os.path.join(folder, "manifest.txt"), "wb") as f:
+                f.write(body + b"end %s\n" % export_folder.digest(body).encode("ascii"))
+
+        for order in itertools.permutations(export.leaves):
+            other = export._replace(leaves=list(order))
+            put(export_folder.manifest(other))
+            tally.check("another order", refused(folder), other)
+        manifest = export_folder.manifest(export)
+        without = {
+            key: b"".join(line for line in manifest.splitlines(True) if not line.startswith(key)) for key in (b"level ", b"index ", (b"level ", b"index "))
+        }
+        for key, text in without.items():
+            put(text)
+            tally.check("without %s: %s" % (key, said_of(folder)), [part for part in ("should stand", "export again") if part not in said_of(folder)], [])
+        for old, new, said in (
+            (b"index 2", b"index 4294967296", "no number up to 4294967295"), (b"level 0", b"level 4294967296", "no number up to 4294967295"), (b"index 2", b"index -1", "no number"),
+        ):
+            put(manifest.replace(old, new))
+            tally.check("%s: %s" % (new, said_of(folder)), [part for part in (said, "export again") if part not in said_of(folder)], [])
+        put(export_folder.manifest(export._replace(leaves=[export.leaves[0], export.leaves[1], export.leaves[0]])))
+        tally.check("one pair twice: %s" % said_of(folder), [part for part in ("same level and index", "export again") if part not in said_of(folder)], [])
 
 
 def damaged_folders(tally):
@@ -505,7 +577,8 @@ def texts(tally):
 def main():
     tally = Tally()
     for part in (
-        refusals, unreadable, accepted, names_of_tables, values, order, bounds, below_zero, replaced, write_fails, changed_nothing, prepared, damaged_folders, texts,
+        refusals, unreadable, accepted, names_of_tables, values, ages, far_pairs, bounds, below_zero, replaced, write_fails, changed_nothing, prepared, order_of_leaves,
+        damaged_folders, texts,
     ):
         part(tally)
     return tally.finish()

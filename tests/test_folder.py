@@ -3,6 +3,7 @@
 
 A damaged folder is refused with one line on standard error. It never crashes the program, and never gives another list.
 """
+import itertools
 import os
 import sqlite3
 import subprocess
@@ -18,6 +19,7 @@ from box import Box
 from fts4box import ARCHIVE
 from generated import EDGES
 from leaf_cases import leaf_of_size
+from leaf_format import MAX_U32
 from tally import Tally
 
 SOURCE = os.path.join(paths.EXAMPLES, "folder.c")
@@ -39,9 +41,9 @@ ANSWERS = [
 
 
 def bench(box):
-    """Three leaves, newest first."""
+    """Three leaves, the newest between the others."""
     newest = folders.written(box, 7, NEW_ROW) + REPLY_GONE
-    return [(0, 1, newest), (0, 0, folders.written(box, 8, OTHER_ROW)), (1, 0, folders.written(box, 7, OLD_ROW))]
+    return [(1, 0, folders.written(box, 7, OLD_ROW)), (0, 1, newest), (0, 0, folders.written(box, 8, OTHER_ROW))]
 
 
 def built(tally, folder, name, options):
@@ -123,12 +125,25 @@ def manifest_bytes(place):
     place.asked("random bytes", WRONG, bytes(range(256)))
 
 
+def ages(tally, program, leaves):
+    """Leaves in any order give one list; other levels and indexes give another, and nobody can see that they are wrong."""
+    for order in itertools.permutations(leaves):
+        Place(tally, program, folders.BENCH, list(order)).asked("another order", listing(FOUND))
+    old, newest, other = (data for _, _, data in leaves)
+    for pairs, docids in (
+        ([(0, 0), (0, 1), (0, 2)], FOUND), ([(9, 9), (8, 0), (9, 0)], FOUND), ([(MAX_U32, 0), (MAX_U32, MAX_U32), (0, 0)], FOUND),
+        ([(0, 1), (1, 0), (0, 0)], [7, 8]), ([(2, 2), (2, 1), (2, 0)], [7, 8]), ([(0, 0), (MAX_U32, MAX_U32), (1, 0)], [7, 8]),
+    ):
+        dated = [(*pair, data) for pair, data in zip(pairs, (old, newest, other))]
+        Place(tally, program, folders.BENCH, dated).asked("ages %s" % pairs, listing(docids))
+
+
 def same_meaning(place):
-    """What says nothing about the search may be otherwise."""
+    """What says nothing about the search may be otherwise; so may levels and indexes that leave the ages as they are."""
     for old, new in (
         ("database bench.db", "database another one.db"), ("table probes", "table p"), ("sqlite 3.40.1", "sqlite 3.41.0"),
         ("time 2026-11-16T01:55:00Z", "time 2027-01-01T00:00:00Z"), ("prepared no", "prepared optimize"), ("prepared no", "prepared rebuild"),
-        ("start 0", "start 9223372036854775807"),
+        ("start 0", "start 9223372036854775807"), ("level 1", "level 4294967295"), ("index 1", "index 4294967295"),
     ):
         place.changed("no difference", listing(FOUND), old, new)
 
@@ -145,9 +160,9 @@ def bad_values(place):
         "leaves 3": ["leaves 0", "leaves 2", "leaves 4", "leaves 9", "leaves 18446744073709551619", "leaves 0x3"],
         first: ["file " + name for name in ("/etc/passwd", "../leaf", ".", "..", ".leaf", "a/b", "", "absent.leaf", "n" * 4000)] + [second],
         second: [first, third],
-        "level 0": ["level 2", "level -1", "level 9223372036854775808", "level %d" % 2**64],
+        "level 0": ["level", "level x", "level -1", "level 4294967296", "level 9223372036854775808", "level %d" % 2**64],
         "level 1": ["level 0"],
-        "index 1": ["index 0", "index 99999999999999999999999"],
+        "index 1": ["index 0", "index", "index 01", "index 4294967296", "index 99999999999999999999999"],
         "start 0": ["start", "start x", "start 00", "start 9223372036854775808", "start %d" % 2**64],
         place.lines[-1]: ["end", "end ", place.lines[-1][:-1], place.lines[-1] + "0", place.lines[-1].upper(), place.lines[-1] + "\n" + place.lines[-1]],
     }
@@ -183,12 +198,12 @@ def names_of_files(tally, program, leaves):
             os.mkdir(os.path.join(folder, "inner"))
             folders.put(folder, name, data)
             folders.put(folder, "manifest.txt", folders.ended(lines).replace(b"level-0-index-0.leaf", name.encode()))
-            tally.check("the name " + name, ran(program, folder, "late"), listing([7]) if name == "leaf" else WRONG)
+            tally.check("the name " + name, ran(program, folder, QUERY), listing([7]) if name == "leaf" else WRONG)
     with tempfile.TemporaryDirectory() as folder:
         lines = folders.make(folder, folders.BENCH, [(0, 1, data), (0, 0, data)])
-        tally.check("two files", ran(program, folder, "late"), listing([7]))
+        tally.check("two files", ran(program, folder, QUERY), listing([7]))
         folders.put(folder, "manifest.txt", folders.ended(lines).replace(b"level-0-index-0.leaf", b"level-0-index-1.leaf"))
-        tally.check("one file twice", ran(program, folder, "late"), WRONG)
+        tally.check("one file twice", ran(program, folder, QUERY), WRONG)
 
 
 def folders_for_files(tally, program, leaves):
@@ -275,6 +290,7 @@ def main():
                 place.asked("query " + query, listing(docids), query=query)
             for part in lines_moved, manifest_cut, manifest_bytes, same_meaning, bad_values, leaves_damaged, box_refuses:
                 part(place)
+            ages(tally, program, leaves)
             names_of_files(tally, program, leaves)
             folders_for_files(tally, program, leaves)
             bounds(tally, program, box)

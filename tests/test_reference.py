@@ -16,6 +16,8 @@ import time
 import reference as ref
 import sqlite_differences as differences
 from generated import LEAST_DOCID, TOP_DOCID, any_docid
+from leaf_format import MAX_U32
+from lending import telling_leaves, told
 
 SEED = 20240607
 NAMES = [b"node", b"sent", b"outcome"]
@@ -47,14 +49,17 @@ def ends_of(parts):
     return list(itertools.accumulate(len(part) for part in parts))
 
 
-def search(leaves, query, room_len=100):
-    """A search over the three columns of P12."""
-    return ref.search(NAME_BYTES, NAME_ENDS, b"".join(leaves), ends_of(leaves), query, room_len)
+def search(leaves, query, room_len=100, pairs=None):
+    """A search over the three columns of P12; without pairs the leaves come newest first."""
+    if pairs is None:
+        pairs = [(place, 0) for place in range(len(leaves))]
+    levels, indexes = [level for level, _ in pairs], [index for _, index in pairs]
+    return ref.search(NAME_BYTES, NAME_ENDS, b"".join(leaves), ends_of(leaves), levels, indexes, query, room_len)
 
 
-def found(leaves, query):
+def found(leaves, query, pairs=None):
     """The docids that an accepted search lists."""
-    number, count, room = search(leaves, query, 100)
+    number, count, room = search(leaves, query, 1000, pairs)
     return room[:count] if number == 0 else (number, count)
 
 
@@ -616,11 +621,11 @@ def test_search():
     check("1 before 2", search([bytes(65537)], b"", 2), (1, 0, [0, 0]))
     check("2 before 3", search([b""], b"", 2), (2, 0, [0, 0]))
     check("3 before 4", search([two, b""], b"a", 0), (3, 1, []))
-    check("names", ref.search(b"aA", [1, 2], b"", [], b"", 1), (1, 0, [0]))
-    check("names", ref.search(b"", [], b"", [], b"", 1), (1, 0, [0]))
-    check("names", ref.search(b"ab", [1], b"", [], b"", 1), (1, 0, [0]))
-    check("ends", ref.search(b"a", [1], b"a", [], b"a", 1), (1, 0, [0]))
-    check("column count", ref.search(b"a", [1], P12, [36], b"a", 1), (3, 0, [0]))
+    check("names", ref.search(b"aA", [1, 2], b"", [], [], [], b"", 1), (1, 0, [0]))
+    check("names", ref.search(b"", [], b"", [], [], [], b"", 1), (1, 0, [0]))
+    check("names", ref.search(b"ab", [1], b"", [], [], [], b"", 1), (1, 0, [0]))
+    check("ends", ref.search(b"a", [1], b"a", [], [], [], b"a", 1), (1, 0, [0]))
+    check("column count", ref.search(b"a", [1], P12, [36], [0], [0], b"a", 1), (3, 0, [0]))
 
     place = [(0, [0])]
     old = ref.encode_leaf([(b"a", [(1, place)]), (b"b", [(1, [(0, [1])])])])
@@ -668,6 +673,56 @@ def test_search():
     check("NEAR/11", found([eleven], b"b NEAR/11 a"), [1])
 
 
+# ages of four leaves, each newest first: on one level, on four, on two, and at the ends of what a pair can be
+AGES = [
+    [(0, 3), (0, 2), (0, 1), (0, 0)], [(0, 0), (1, 0), (2, 0), (3, 0)], [(4, 9), (4, 2), (7, 300), (7, 0)],
+    [(0, MAX_U32), (0, 0), (MAX_U32, MAX_U32), (MAX_U32, 0)], [(2**31 - 1, 5), (2**31, 2**31), (2**31, 2**31 - 1), (2**31 + 1, 6)],
+]
+
+
+def test_ages():
+    """Document 02, section 11: age comes from the pairs, in whatever order the leaves are lent."""
+    for count in (2, 3, 4):
+        leaves, rows = telling_leaves(count), told(range(count))
+        for ages in AGES:
+            # each leaf is once the newest, the second, and so on; then all orders of lending, of four leaves some
+            for by_age in itertools.permutations(range(count)):
+                pairs = [ages[by_age.index(place)] for place in range(count)]
+                orders = itertools.permutations(range(count)) if count < 4 else [by_age, by_age[::-1], (2, 0, 3, 1)]
+                for order in orders:
+                    lent, dated = [leaves[place] for place in order], [pairs[place] for place in order]
+                    newer = told(by_age)
+                    check("ages %s lent %s" % (pairs, order), found(lent, b"node:w", dated), newer)
+                    check("ages %s lent %s" % (pairs, order), found(lent, b"d", dated), [row for row in rows if row not in newer])
+
+
+def test_pairs():
+    """Document 02, section 11: each leaf has a pair of its own, else number 1; number 3 counts in the order lent."""
+    shape, many = (1, 0, [0, 0]), telling_leaves(8)
+    for count in range(2, 9):
+        for one, other in itertools.combinations(range(count), 2):
+            pairs = [(place % 3, place) for place in range(count)]
+            check("pairs", search(many[:count], b"w", 0, pairs)[0], 4)
+            pairs[other] = pairs[one]
+            check("the same pair", search(many[:count], b"w", 2, pairs), shape)
+            check("1 before 2", search(many[:count], b"", 2, pairs), shape)
+            check("1 before 3", search([b""] * count, b"w", 2, pairs), shape)
+    for pairs in ([(0, 1), (1, 0)], [(3, 4), (3, 5)], [(3, 4), (4, 4)]):
+        check("other pairs", search([P12, P12], b"reply", 2, pairs), (0, 1, [7, 0]))
+    for count in (0, 1, 3, 8):
+        lent = b"".join(many[:count]), ends_of(many[:count])
+        for levels, indexes in itertools.product({0, 1, max(count - 1, 0), count, count + 1, 300}, repeat=2):
+            answer = ref.search(NAME_BYTES, NAME_ENDS, *lent, list(range(levels)), list(range(indexes)), b"absent", 2)
+            check("lengths %d %d %d" % (count, levels, indexes), answer, (0, 0, [0, 0]) if levels == indexes == count else shape)
+    for count in range(1, 9):
+        for bad in range(count):
+            lent = [b"" if place == bad or place == count - 1 else P12 for place in range(count)]
+            for pairs in ([(place, 0) for place in range(count)], [(count - place, 0) for place in range(count)], [(7, place * 5 % 8) for place in range(count)]):
+                check("broken at %d of %d" % (bad, count), search(lent, b"reply", 2, pairs), (3, bad, [0, 0]))
+                check("2 before 3", search(lent, b"reply AND", 2, pairs), (2, 0, [0, 0]))
+    check("3 before 4", search([P12, b""], b"reply", 0, [(1, 0), (0, 0)]), (3, 1, []))
+
+
 def test_program():
     """The program's output."""
     check("program", ref.one_search(b"reply", P12), "docs 1\n7\n")
@@ -701,7 +756,7 @@ def test_any_input(rng):
                 for _ in range(rng.randrange(0, 4))]
         tree = ref.read_query(junk, NAMES)
         check("junk", found([P12], junk) == (2, 0), tree is None)
-        check("junk", ref.search(junk, ends, junk, ends, junk, 1)[0] in range(5), True)
+        check("junk", ref.search(junk, ends, junk, ends, ends, ends[::-1], junk, 1)[0] in range(5), True)
         check("junk", ref.write_leaf(1, junk, ends, 9)[0] in (0, 1, 4), True)
         check("junk", ref.lookup(junk, 3, junk)[0] in (0, 1, 3), True)
 
@@ -719,7 +774,7 @@ def test_time():
     for leaf, query, count in ((one_row, chain, 1), (rows, mixed, len(docids)), (many, chain, 1)):
         check("leaf size", 60000 < len(leaf) <= 65536, True)
         started = time.process_time()
-        answer = ref.search(b"c", [1], leaf, [len(leaf)], query, 65536)[:2]
+        answer = ref.search(b"c", [1], leaf, [len(leaf)], [0], [0], query, 65536)[:2]
         worst = max(worst, time.process_time() - started)
         check("large search", answer, (0, count))
     print("slowest large search: %.2f s of processor time" % worst)
@@ -749,11 +804,22 @@ def new_table():
     return connection
 
 
+def only_leaf(connection, start, end, root):
+    """The one leaf of a segment, or None when it has more: the root, or all that stands below a root without words, as `merge=` leaves it."""
+    if " -" in str(end):
+        return None  # partly merged
+    if root == b"\x01" + ref.encode_varint(start):
+        (root,), = connection.execute("select block from t_segments where blockid = ?", [start])
+    return root if root[:1] == b"\x00" else None
+
+
 def table_leaves(connection):
-    """The table's leaves, newest first, or None when one is not of height 0."""
-    roots = connection.execute("select root from t_segdir order by level, idx desc").fetchall()
-    leaves = [bytes(root) for root, in roots]
-    return leaves if all(leaf[:1] == b"\x00" for leaf in leaves) else None
+    """The table's leaves as (level, index, leaf), in no set order, or None when the box can't take them."""
+    rows = connection.execute("select level, idx, start_block, end_block, root from t_segdir").fetchall()
+    leaves = [(level, index, only_leaf(connection, *rest)) for level, index, *rest in rows]
+    if len(leaves) > 8 or any(leaf is None for _, _, leaf in leaves) or sum(len(leaf) for _, _, leaf in leaves) > 65536:
+        return None
+    return leaves
 
 
 def random_text(rng, vocabulary):
@@ -762,9 +828,9 @@ def random_text(rng, vocabulary):
     return rng.choice([" ", ", ", "_"]).join(w.upper() if rng.random() < 0.2 else w for w in chosen)
 
 
-def change_table(rng, connection, vocabulary, transactions):
-    """Random inserts, updates and deletions, one leaf to a transaction."""
-    docids = set()
+def change_table(rng, connection, vocabulary, transactions, commands=("optimize",), chance=0.05):
+    """Random inserts, updates and deletions, one leaf to a transaction; now and then a command."""
+    docids = {docid for docid, in connection.execute("select docid from t")}
     for _ in range(transactions):
         connection.execute("begin")
         for _ in range(rng.randrange(1, 6)):
@@ -781,8 +847,8 @@ def change_table(rng, connection, vocabulary, transactions):
                 connection.execute("delete from t where docid=?", [docid])
                 docids.discard(docid)
         connection.execute("commit")
-        if rng.random() < 0.05:
-            connection.execute("insert into t(t) values('optimize')")
+        if rng.random() < chance:
+            connection.execute("insert into t(t) values(?)", [rng.choice(commands)])
 
 
 def sqlite_docids(connection, query):
@@ -815,8 +881,14 @@ def test_sqlite_writer(rng, vocabulary):
         encoded = [text.encode() for text in texts]
         number, length, room = ref.write_leaf(docid, b"".join(encoded), ends_of(encoded), 4096)
         stored = table_leaves(connection)
-        check("sqlite writer", [room[:length]] if length else [], stored)
+        check("sqlite writer", [(0, 0, room[:length])] if length else [], stored)
         connection.close()
+
+
+def lent_in_some_order(rng, leaves):
+    """The table's leaves in some order, and the pair of each."""
+    order = rng.sample(leaves, len(leaves))
+    return [leaf for _, _, leaf in order], [(level, index) for level, index, _ in order]
 
 
 def test_sqlite_search(rng, vocabulary):
@@ -827,11 +899,11 @@ def test_sqlite_search(rng, vocabulary):
         transactions = rng.randrange(16, 22) if round_number % 3 == 0 else rng.randrange(1, 9)
         change_table(rng, connection, vocabulary, transactions)
         leaves = table_leaves(connection)
-        if leaves is None or len(leaves) > 8 or sum(map(len, leaves)) > 65536:
+        if leaves is None:
             connection.close()
             continue
         several += len(leaves) > 1
-        for leaf in leaves:
+        for _, _, leaf in leaves:
             parsed = ref.parse_leaf(leaf, 3)
             check("sqlite leaf", parsed is not None, True)
             if parsed is not None:
@@ -848,7 +920,8 @@ def test_sqlite_search(rng, vocabulary):
                 only_here += tree is not None
                 only_there += theirs is not None
             else:
-                check("sqlite %r" % query, found(leaves, query), theirs)
+                lent, pairs = lent_in_some_order(rng, leaves)
+                check("sqlite %r" % query, found(lent, query, pairs), theirs)
                 compared += 1
                 listed += bool(theirs)
                 below += bool(theirs) and theirs[0] < 0
@@ -857,6 +930,51 @@ def test_sqlite_search(rng, vocabulary):
     check("accepted here, an error in SQLite", only_here, 0)
     print("SQLite %s: %d queries compared, %d with docids, %d with docids below 0, %d in SQLite's language only"
           % (sqlite3.sqlite_version, compared, listed, below, only_there))
+
+
+# SQLite merges 16 segments of a level into one of the next, so that there are three levels after 17 times 16; `merge=` does it earlier
+MANY = range(17 * 16 + 1, 20 * 16)
+MERGES = ("merge=500,2", "merge=500,3", "merge=1,4")
+
+
+def table_of_levels(rng, vocabulary, merged):
+    """A table in which SQLite left several levels, by its own count of segments or by `merge=`; changed on until the box takes its leaves."""
+    connection = new_table()
+    if merged:
+        change_table(rng, connection, vocabulary, rng.randrange(10, 40), MERGES, 0.3)
+    else:
+        change_table(rng, connection, vocabulary, rng.choice(MANY), chance=0)
+    for _ in range(100):
+        if table_leaves(connection) is not None:
+            return connection
+        change_table(rng, connection, vocabulary, 1, MERGES, 0.5 if merged else 0)
+    raise AssertionError("SQLite never comes to a few leaves")
+
+
+def test_sqlite_levels(rng, vocabulary):
+    """Where SQLite left several levels: its leaves in some order, each with its pair of the directory, list what MATCH lists."""
+    compared = other = 0
+    levels_of = []
+    for round_number in range(24):
+        connection = table_of_levels(rng, vocabulary, round_number % 4 > 0)
+        leaves = table_leaves(connection)
+        levels_of.append(len({level for level, _, _ in leaves}))
+        for _ in range(25):
+            query = random_query(rng, vocabulary, NAMES)
+            if ref.read_query(query, NAMES) is None:
+                continue
+            theirs = sqlite_docids(connection, differences.written_out(query))
+            lent, pairs = lent_in_some_order(rng, leaves)
+            check("sqlite levels %r, %s" % (query, pairs), found(lent, query, pairs), theirs)
+            compared += 1
+            # would other ages be noticed: the level read the wrong way round, and the index
+            turned = [[(9 - level, index) for level, index in pairs], [(level, 99 - index) for level, index in pairs]]
+            other += any(found(lent, query, wrong) != theirs for wrong in turned)
+        connection.close()
+    check("sqlite queries over several levels", compared > 500 and other * 4 > compared, True)
+    check("sqlite tables of several levels", sum(n > 1 for n in levels_of) > 18 and sum(n > 2 for n in levels_of) > 6, True)
+    print("SQLite %s: %d queries compared in %d tables, %d of two levels and %d of more; wrong ages would change %d lists"
+          % (sqlite3.sqlite_version, compared, len(levels_of), levels_of.count(2), sum(n > 2 for n in levels_of), other))
 
 
 def test_sqlite(rng):
@@ -868,6 +986,7 @@ def test_sqlite(rng):
     vocabulary = [w.encode() for w in ("a", "ab", "abc", "b", "ba", "bac", "c", "ca", "é", "éa")]
     test_sqlite_writer(rng, vocabulary)
     test_sqlite_search(rng, vocabulary)
+    test_sqlite_levels(rng, vocabulary)
 
 
 def main():
@@ -884,6 +1003,8 @@ def main():
     test_writer(random.Random(SEED))
     test_queries()
     test_search()
+    test_ages()
+    test_pairs()
     test_search_exhaustive(random.Random(SEED))
     test_program()
     test_any_input(random.Random(SEED))

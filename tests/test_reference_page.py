@@ -6,6 +6,7 @@ import sys
 
 import folders
 import header
+import lending
 import paths
 import sqlite_differences as differences
 from box import Box
@@ -21,6 +22,8 @@ SEARCH_ROOM, WRITE_ROOM = header.NUMBERS["FTS4_SEARCH_ROOM"], header.NUMBERS["FT
 REFUSED_QUERY = 2, 0, []
 # a piece of a query, as often as it comes; the end of a query; a query without bytes
 PIECE = re.compile(r"`([^`]+)`(?: × (\d+))?|(,)|\((nothing)\)")
+# a leaf and its pair
+LENT = re.compile(r"([a-z ]+) (\d+)/(\d+)(?:, |$)")
 
 
 class Page:
@@ -110,22 +113,26 @@ def change(tally, library, box, page):
     changed = leaf_of_table(tally, page, 1)
     tally.check("the leaf of one row", leaf_of_table(tally, page, 0), old)
     tally.check("the leaf with a deletion is the written one and a word", (changed[:len(new)], box.check(changed, COLUMNS)), (new, (0, 0)))
-    lent = {"old": old, "without deletion": new, "with deletion": changed}
-    for row in page.table("| leaves, newest first | `reply` lists | `late` lists |", 0):
-        leaves = [lent[name] for name in row[0].split(", ")]
+    named = {"old": old, "without deletion": new, "with deletion": changed}
+    for row in page.table("| lent, each with level/index | `reply` lists | `late` lists |", 0):
+        found = LENT.findall(row[0])
+        tally.check("what is no leaf in %s" % row[0], (LENT.sub("", row[0]), found != []), ("", True))
+        leaves, levels, indexes = [named[name] for name, _, _ in found], [int(level) for _, level, _ in found], [int(index) for _, _, index in found]
         for query, cell in zip((b"reply", b"late"), row[1:]):
             docids = numbers(cell)
-            tally.check("%r in %s" % (query, row[0]), search(library, NAMES, leaves, query, SEARCH_ROOM), (0, len(docids), docids))
+            answer = search(library, NAMES, leaves, levels, indexes, query, SEARCH_ROOM)
+            tally.check("%r in %s" % (query, row[0]), answer, (0, len(docids), docids))
 
 
 def query_tables(tally, library, box, page):
     rows = page.table("| docid | node | sent | outcome |", 0)
     leaves = [folders.written(box, int(row[0]), [text.encode() for text in row[1:]]) for row in rows]
+    lent = leaves, [0] * len(leaves), list(range(len(leaves)))
     for query, (_, cell) in page.queries("| query | what it means | docids |"):
         docids = numbers(cell)
-        tally.check("accepted %.60r" % query, search(library, NAMES, leaves, query, SEARCH_ROOM), (0, len(docids), docids))
+        tally.check("accepted %.60r" % query, search(library, NAMES, *lent, query, SEARCH_ROOM), (0, len(docids), docids))
     for query, _ in page.queries("| query | why |"):
-        tally.check("refused %.60r" % query, search(library, NAMES, leaves, query, SEARCH_ROOM), REFUSED_QUERY)
+        tally.check("refused %.60r" % query, search(library, NAMES, *lent, query, SEARCH_ROOM), REFUSED_QUERY)
 
 
 def sqlite_tables(tally, library, box, page):
@@ -136,14 +143,14 @@ def sqlite_tables(tally, library, box, page):
         told = [query for query, _ in page.queries("| query | what it is |", count)]
         tally.check("differences, table %d" % count, sorted(told), sorted(expected))
         for query in told:
-            number, _, _ = search(library, NAMES, leaves, query, SEARCH_ROOM)
+            number, _, _ = search(library, NAMES, leaves, [0, 0], [0, 1], query, SEARCH_ROOM)
             tally.check("difference %.60r" % query, number, answer)
 
 
 def shapes(tally, box):
     """Each item that earns number 1."""
     leaf, over = folders.written(box, DOCID, OLD_ROW), bytes(65537)
-    lent = joined(NAMES) + joined([leaf])
+    names, lent = joined(NAMES), lending.in_order([leaf])
     asked = {
         "check": [(leaf, 0), (leaf, 17), (over, COLUMNS)],
         "lookup": [(leaf, 0, b"a"), (leaf, 17, b"a"), (over, COLUMNS, b"a"), (leaf, COLUMNS, b""), (leaf, COLUMNS, b"w" * 65)],
@@ -155,11 +162,14 @@ def shapes(tally, box):
             (1, b"ab", [2, 1], 0), (1, b"ab", [3], 0), (1, b"ab", [1], 0), (1, b"ab", [], 0), (1, b"", [], 0), (1, b"", [0] * 17, 0),
             (1, b" " * 4097, [4097], 0),
         ],
-        "search": [(*joined(names), *lent[2:], b"a", 0) for names in (
+        "search": [(*joined(other), *lent, b"a", 0) for other in (
             [], [b"c%d" % i for i in range(17)], [b"a", b""], [b"c" * 33], [b"a b"], [b"caf\xc3\xa9"], [b"a-b"], [b"a", b"A"],
-        )] + [(b"ab", ends, *lent[2:], b"a", 0) for ends in ([2, 1], [3], [1], [])]
-        + [(*lent[:2], leaf, ends, b"a", 0) for ends in ([36, 35], [37], [35], [])]
-        + [(*lent[:2], *joined(leaves), b"a", 0) for leaves in ([leaf] * 9, [over])],
+        )] + [(b"ab", ends, *lent, b"a", 0) for ends in ([2, 1], [3], [1], [])]
+        + [(*names, leaf, ends, [0] * len(ends), list(range(len(ends))), b"a", 0) for ends in ([36, 35], [37], [35], [])]
+        + [(*names, *lending.in_order(leaves), b"a", 0) for leaves in ([leaf] * 9, [over])]
+        + [(*names, *joined([leaf] * 2), levels, indexes, b"a", 0) for levels, indexes in (
+            ([], []), ([0], [0]), ([0, 1], [0]), ([0], [0, 1]), ([0, 1, 2], [0, 0]), ([0, 0], [0, 1, 2]), ([0, 1, 2], [0, 1, 2]), ([3, 3], [4, 4]),
+        )],
     }
     for name, cases in asked.items():
         for case in cases:

@@ -3,8 +3,8 @@
 
     python3 tests/test_sqlite.py [TABLES [SEED]]
 
-The leaves come from tools/export_leaves.py. What both accept is compared exactly; what is left out stands in
-tests/sqlite_differences.py.
+The leaves come from tools/export_leaves.py, each with its level and index, and are lent in another order for each query. What both accept is
+compared exactly; what is left out stands in tests/sqlite_differences.py.
 """
 import collections
 import os
@@ -17,6 +17,7 @@ import paths  # noqa: F401
 import export_leaves
 import generated
 import leaf_format
+import lending
 import reference
 import sqlite_differences as differences
 from box import Box
@@ -74,6 +75,11 @@ def match(base, query):
         return None
 
 
+def in_some_order(rng, leaves):
+    """Leaves of an export as they are lent, in some order."""
+    return lending.mixed(rng, [leaf.data for leaf in leaves], [(leaf.level, leaf.index) for leaf in leaves])
+
+
 def compare(rng, tally, counts, box, base, names, leaves):
     for number in range(QUERIES):
         alike = number % 4 == 0
@@ -87,7 +93,7 @@ def compare(rng, tally, counts, box, base, names, leaves):
             counts["too deep for SQLite"] += 1
             continue
         listed = theirs or []
-        answer = box.search(*joined(names), *joined(leaves), query, ROOM)
+        answer = box.search(*joined(names), *in_some_order(rng, leaves), query, ROOM)
         tally.check(query, answer, (0, len(listed), listed + [0] * (ROOM - len(listed))))
         if theirs is None:
             tally.fail("SQLite refuses %r" % query)
@@ -101,11 +107,11 @@ def compare(rng, tally, counts, box, base, names, leaves):
         counts["of these list docids"] += alike and bool(listed)
 
 
-def known(tally, box, base):
+def known(rng, tally, box, base):
     """Each known difference is one: it leaves the list once it is none."""
     for docid, text in ((1, "x"), (2, "y x")):
         base.execute("insert into t(docid, outcome) values (?, ?)", (docid, text))
-    asked = joined([b"node", b"sent", b"outcome"]) + joined([leaf.data for leaf in export_leaves.segments(base, "t")])
+    asked = *joined([b"node", b"sent", b"outcome"]), *in_some_order(rng, export_leaves.segments(base, "t"))
     for query in differences.ONLY_SQLITE:
         tally.check("SQLite accepts %r" % query, match(base, query) is not None, True)
         tally.check("the box refuses %r" % query, box.search(*asked, query, 4), (2, 0, [0] * 4))
@@ -115,7 +121,7 @@ def known(tally, box, base):
     text, queries = differences.BARE_NEAR
     base.execute("delete from t")
     base.execute("insert into t(docid, outcome) values (1, ?)", (text.decode(),))
-    asked = joined([b"node", b"sent", b"outcome"]) + joined([leaf.data for leaf in export_leaves.segments(base, "t")])
+    asked = *joined([b"node", b"sent", b"outcome"]), *in_some_order(rng, export_leaves.segments(base, "t"))
     for query in queries:
         tally.check("SQLite lists %r" % query, match(base, query), [1])
         tally.check("the box does not list %r" % query, box.search(*asked, query, 4), (0, 0, [0] * 4))
@@ -126,7 +132,7 @@ def main(words):
     tables = int(words[0]) if words else TABLES
     rng = random.Random(int(words[1]) if len(words) > 1 else SEED)
     box, tally, counts = Box(), Tally(), collections.Counter()
-    known(tally, box, new_table(":memory:"))
+    known(rng, tally, box, new_table(":memory:"))
     with tempfile.TemporaryDirectory() as folder:
         for i in range(tables):
             path = os.path.join(folder, "t%d.db" % i)
@@ -136,7 +142,7 @@ def main(words):
             counts["tables"] += 1
             counts["with several segments"] += len(export.leaves) > 1
             counts["with two levels"] += base.execute("select count(distinct level) from t_segdir").fetchone()[0] > 1
-            compare(rng, tally, counts, box, base, [name.encode() for name in export.names], [leaf.data for leaf in export.leaves])
+            compare(rng, tally, counts, box, base, [name.encode() for name in export.names], export.leaves)
             base.close()
             os.remove(path)
     print("SQLite %s: " % sqlite3.sqlite_version + ", ".join("%d %s" % (n, what) for what, n in counts.items()))

@@ -106,14 +106,14 @@ def compare(rng, tally, counts, library, base, export):
     with tempfile.TemporaryDirectory() as place:
         export_folder.write(os.path.join(place, "out"), export)
         tally.check("an export is what was read", export_folder.read(os.path.join(place, "out")), export)
-    names, leaves = [name.encode() for name in export.names], [leaf.data for leaf in export.leaves]
     for _ in range(QUERIES):
         query = generated.some_query(rng)
+        names, leaves, levels, indexes = export_folder.lent(export._replace(leaves=rng.sample(export.leaves, len(export.leaves))))
         tree = reference.read_query(query, names)
         if tree is None or differences.may_be_too_deep(tree):
             continue
         theirs = listed(base, differences.written_out(query))
-        tally.check("rows for %r" % query, fts4box.search(library, names, leaves, query), (0, len(theirs), theirs))
+        tally.check("rows for %r" % query, fts4box.search(library, names, leaves, levels, indexes, query), (0, len(theirs), theirs))
         counts["queries"] += 1
         counts["queries that list docids"] += bool(theirs)
         counts["queries that list docids below 0"] += bool(theirs) and theirs[0] < 0

@@ -28,9 +28,9 @@ from export_folder import Refused
 
 COUNTED, REFUSED_BY_BOX, NOT_EXPORTABLE, FAILED = range(4)
 MEANINGS = {
-    1: "shape: the column names, or the number or the size of the leaves",
+    1: "shape: the column names, or the number, the size, the levels or the indexes of the leaves",
     2: "the query is not in the language, or has more than 512 bytes, 16 words or 8 parentheses one in the other",
-    3: "a leaf breaks a rule; the second number says which, counted from 0, newest first",
+    3: "a leaf breaks a rule; the second number says which, counted from 0 in the manifest's order",
     4: "too little room for the docids; the second number says how many there are",
 }
 
@@ -61,8 +61,7 @@ def export_of(given):
 
 
 def searched(export, query):
-    library = fts4box.load()
-    return fts4box.search(library, [name.encode("ascii") for name in export.names], [leaf.data for leaf in export.leaves], query)
+    return fts4box.search(fts4box.load(), *export_folder.lent(export), query)
 
 
 def written(given, number, second, docids):

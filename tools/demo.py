@@ -59,8 +59,7 @@ def by_sqlite(base, query):
 
 
 def by_box(library, export, query):
-    names, leaves = [name.encode() for name in export.names], [leaf.data for leaf in export.leaves]
-    number, second, docids = fts4box.search(library, names, leaves, query.encode())
+    number, second, docids = fts4box.search(library, *export_folder.lent(export), query.encode())
     return docids if number == 0 else "refused %d %d" % (number, second)
 
 

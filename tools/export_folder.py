@@ -10,9 +10,9 @@ The manifest has one fact to a line, a key, a space and a value, in this order, 
     prepared no             or optimize, rebuild: what was done to a copy before
     columns 3               then each column's name
     column node
-    leaves 2                then for each leaf, newest first:
+    leaves 2                then for each leaf, in any order:
     file level-0-index-1.leaf
-    level 0
+    level 0                 its age: a lower level is newer, and on a level a higher index; no two have the same
     index 1
     start 0                 its start block: 0, since a leaf stands alone
     size 1234
@@ -38,7 +38,6 @@ FORMAT = "fts4box export"
 VERSION = "1"
 PREPARED = ("no", "optimize", "rebuild")
 MAX_MANIFEST_BYTES = 65536
-MAX_U32 = 2**32 - 1
 # document 01's program reads this file, and takes it as a leaf with these columns: no other leaf may have its name
 PROGRAM_FILE, PROGRAM_COLUMNS = "leaf0.bin", ["node", "sent", "outcome"]
 PLAIN = "".join(chr(b) for b in range(32, 127) if chr(b) != "%")
@@ -192,13 +191,13 @@ class Lines:
     def value(self, key):
         line = self.line()
         if not line.startswith(key + " "):
-            raise Refused("line %d of the manifest is %r, where `%s` should stand" % (self.at, line[:80], key))
+            raise Refused("line %d of the manifest is %r, where `%s` should stand: export again" % (self.at, line[:80], key))
         return line[len(key) + 1:]
 
     def number(self, key, most):
         value = self.value(key)
         if not NUMBER.fullmatch(value) or int(value) > most:
-            raise Refused("line %d of the manifest: `%s` is no number up to %d" % (self.at, key, most))
+            raise Refused("line %d of the manifest: `%s` is no number up to %d: export again" % (self.at, key, most))
         return int(value)
 
     def end(self):
@@ -221,7 +220,8 @@ def read_file(path, most):
 def read_one(folder, lines):
     """The name of one leaf's file, and the leaf."""
     name = lines.value("file")
-    leaf = Leaf(lines.number("level", MAX_U32), lines.number("index", MAX_U32), lines.number("start", leaf_format.MAX_NUMBER), b"")
+    level, index = lines.number("level", leaf_format.MAX_U32), lines.number("index", leaf_format.MAX_U32)
+    leaf = Leaf(level, index, lines.number("start", leaf_format.MAX_NUMBER), b"")
     size, wanted = lines.number("size", leaf_format.MAX_LEAF_BYTES), lines.value("sha256")
     if "/" in name or name.startswith(".") or not HASH.fullmatch(wanted):
         raise Refused("the manifest's facts on the file %r can't be" % name)
@@ -259,12 +259,11 @@ def read(folder):
 
 
 def check_leaves(export, files):
-    """By their own names, newest first, no two of one age, and together no more than the box takes."""
+    """By their own names, no two of one age, and together no more than the box takes."""
     if files != [file_name(export, leaf) for leaf in export.leaves]:
         raise Refused("the manifest gives a leaf a name that is not its own")
-    ages = [(leaf.level, -leaf.index) for leaf in export.leaves]
-    if ages != sorted(set(ages)):
-        raise Refused("the manifest's leaves do not come newest first, each once")
+    if len({(leaf.level, leaf.index) for leaf in export.leaves}) != len(export.leaves):
+        raise Refused("the manifest gives two leaves the same level and index: export again")
     check_size(export.leaves)
 
 
@@ -272,3 +271,13 @@ def check_size(leaves):
     total = sum(len(leaf.data) for leaf in leaves)
     if total > leaf_format.MAX_LEAF_BYTES:
         raise Refused("the leaves have %d bytes together: the box takes %d" % (total, leaf_format.MAX_LEAF_BYTES))
+
+
+# Searching
+
+
+def lent(export):
+    """What a search takes of an export: names, leaves, levels, indexes."""
+    leaves = export.leaves
+    names = [name.encode("ascii") for name in export.names]
+    return names, [leaf.data for leaf in leaves], [leaf.level for leaf in leaves], [leaf.index for leaf in leaves]

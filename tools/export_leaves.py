@@ -44,6 +44,10 @@ def optimize_of(table):
     return "run `insert into %s(%s) values ('optimize')`" % (name_of(table), name_of(table))
 
 
+def rebuild_of(table):
+    return "run `insert into %s(%s) values ('rebuild')`" % (name_of(table), name_of(table))
+
+
 # The database
 
 
@@ -100,7 +104,7 @@ def partly_merged(end_block):
 
 
 def segment_rows(base, table):
-    """The rows of the segment directory, newest first: lower level first, then higher index."""
+    """The rows of the segment directory. The box needs no order; they come newest first, as readers of a manifest before version 1.5 want them."""
     shadow = table + "_segdir"
     if base.execute("select count(*) from main.sqlite_master where type = 'table' and name = ?", (shadow,)).fetchone() != (1,):
         raise Refused("the database has no table %s: the index is damaged" % name_of(shadow))
@@ -114,6 +118,8 @@ def one_leaf(table, level, index, start, _, root):
     segment = "the segment of level %d, index %d" % (level, index)
     if level >= FIRST_OTHER_LEVEL:
         raise Refused("%s belongs to a prefix index or to another language: the box knows neither" % segment)
+    if index > leaf_format.MAX_U32:
+        raise Refused("%s: the box takes indexes up to %d; give --prepare, or %s" % (segment, leaf_format.MAX_U32, rebuild_of(table)))
     if start != 0 or root[:1] != b"\0":
         raise Refused(
             "%s has interior nodes, since it does not fit on one page (too many rows in one transaction for the page size): give --prepare; or set "
@@ -131,11 +137,20 @@ def check_merged(table, rows):
             )
 
 
+def check_pairs(table, leaves):
+    """No two of one age: which of them is the newer one could not be told."""
+    pairs = [(leaf.level, leaf.index) for leaf in leaves]
+    for pair in pairs:
+        if pairs.count(pair) > 1:
+            raise Refused("%d rows of %s have level %d, index %d: the index is damaged" % (pairs.count(pair), name_of(table + "_segdir"), *pair))
+
+
 def segments(base, table):
-    """The leaves of all segments, newest first, as many as the box takes."""
+    """The leaves of all segments, as many as the box takes."""
     rows = segment_rows(base, table)
     check_merged(table, rows)
     leaves = [one_leaf(table, *row) for row in rows]
+    check_pairs(table, leaves)
     if len(leaves) > leaf_format.MAX_LEAVES:
         raise Refused("the index has %d segments: the box takes %d; give --prepare, or %s" % (len(leaves), leaf_format.MAX_LEAVES, optimize_of(table)))
     total = sum(len(leaf.data) for leaf in leaves)
@@ -175,7 +190,8 @@ def read_leaf(leaf, columns):
 
 def live_places(leaves, columns):
     """For each word of the leaves the rows in which it is live: docid, columns, positions; none for a word that is deleted everywhere."""
-    entries = leaf_format.live_entries([read_leaf(leaf, columns) for leaf in leaves])
+    newest_first = sorted(leaves, key=lambda leaf: leaf_format.age(leaf.level, leaf.index))
+    entries = leaf_format.live_entries([read_leaf(leaf, columns) for leaf in newest_first])
     return {word: {docid: found for docid, found in rows.items() if found} for word, rows in entries.items()}
 
 
@@ -245,7 +261,7 @@ def ask_back(base, table, names, said, live):
         if rows.get(word, {}) != ours:
             raise Refused(
                 "the word %s does not stand in the rows as the index says: the index is not that of the rows under the tokenizer simple; give --prepare, "
-                "or run `insert into %s(%s) values ('rebuild')`" % (shown, name_of(table), name_of(table))
+                "or %s" % (shown, rebuild_of(table))
             )
         if sorted(ours) != matched(base, table, word):
             raise Refused("the word %s: SQLite's MATCH lists other rows than the leaves" % shown)

@@ -1,4 +1,4 @@
-"""Leaves as documents 01 and 02 have them: stored numbers, posting lists, leaves, words, live entries.
+"""Leaves as documents 01 and 02 have them: stored numbers, posting lists, leaves, words, age, live entries.
 
 What the tools and the second program (tests/reference.py) share. It is written from these documents alone. Whatever breaks a rule
 raises `Broken`, which says the rule, and the word and the docid at which it is broken.
@@ -13,6 +13,8 @@ MAX_NUMBER_BYTES = 9
 MAX_NUMBER = 2**63 - 1
 MAX_DOCID_BYTES = 10
 MAX_POSITION = 2**31 - 1
+# of a level and an index
+MAX_U32 = 2**32 - 1
 
 NAME_BYTES = b"ABCDEFGHIJKLMNOPQRSTUVWXYZabcdefghijklmnopqrstuvwxyz0123456789_"
 
@@ -293,7 +295,15 @@ def words(text):
     return found
 
 
-# Live entries
+# Age, and live entries
+
+
+def age(level, index):
+    """By what leaves are sorted, the newest first.
+
+    Document 02, section 11: a lower level is newer, and on the same level a higher index.
+    """
+    return level, -index
 
 
 def live_entries(leaves):

@@ -1,6 +1,6 @@
 // The compared cases: each is read from standard input, and what the functions of a layer answer is written as one line.
-// A case is the number of what it asks for, two numbers, two fields with their ends, and a short field; those that it does
-// not need are 0 or empty. tests/make_cases.py makes the cases and, with the second program, the lines that are expected.
+// A case is the number of what it asks for, two numbers, two fields with their ends, for a search its levels and indexes, and a short
+// field; those that it does not need are 0 or empty. tests/make_cases.py makes the cases and, with the second program, the lines that are expected.
 mod documents;
 mod exchange;
 mod ground;
@@ -60,7 +60,6 @@ fn answer<'a>(
     first: &'a [u8],
     first_ends: &[u32],
     second: &'a [u8],
-    second_ends: &[u32],
     short: &[u8],
 ) {
     match kind {
@@ -75,7 +74,6 @@ fn answer<'a>(
         ),
         QUERY => queries::read(first, first_ends, short),
         DOCUMENT => documents::write(exchange::signed_of(m), first, first_ends, n as usize),
-        SEARCH => searches::search(first, first_ends, second, second_ends, short, n as usize),
         _ => answer_ground(kind, n, first, first_ends, short),
     }
 }
@@ -88,24 +86,34 @@ fn with_short<'a>(
     first: &'a [u8],
     first_ends: &[u32],
     second: &'a [u8],
-    second_ends: &[u32],
 ) {
     let mut short = [0u8; MAX_SHORT];
     let size = exchange::field(&mut short);
     if kind == WRITE {
         ground::write_number(&mut short[0..size], n);
     } else {
-        answer(
-            kind,
-            n,
-            m,
-            first,
-            first_ends,
-            second,
-            second_ends,
-            &short[0..size],
-        );
+        answer(kind, n, m, first, first_ends, second, &short[0..size]);
     }
+}
+
+// A case of SEARCH has levels and indexes before the short field.
+fn with_pairs(n: u64, first: &[u8], first_ends: &[u32], second: &[u8], second_ends: &[u32]) {
+    let mut levels = [0u32; MAX_ENDS];
+    let level_count = exchange::ends(&mut levels);
+    let mut indexes = [0u32; MAX_ENDS];
+    let index_count = exchange::ends(&mut indexes);
+    let mut short = [0u8; MAX_SHORT];
+    let size = exchange::field(&mut short);
+    searches::search(
+        first,
+        first_ends,
+        second,
+        second_ends,
+        &levels[0..level_count],
+        &indexes[0..index_count],
+        &short[0..size],
+        n as usize,
+    );
 }
 
 fn with_second(kind: u64, n: u64, m: u64, first: &[u8], first_ends: &[u32]) {
@@ -113,15 +121,11 @@ fn with_second(kind: u64, n: u64, m: u64, first: &[u8], first_ends: &[u32]) {
     let size = exchange::field(&mut second);
     let mut ends = [0u32; MAX_ENDS];
     let count = exchange::ends(&mut ends);
-    with_short(
-        kind,
-        n,
-        m,
-        first,
-        first_ends,
-        &second[0..size],
-        &ends[0..count],
-    );
+    if kind == SEARCH {
+        with_pairs(n, first, first_ends, &second[0..size], &ends[0..count]);
+    } else {
+        with_short(kind, n, m, first, first_ends, &second[0..size]);
+    }
 }
 
 fn with_first(kind: u64) {

@@ -91,10 +91,21 @@ fn search_in(
     name_ends: &[u32],
     leaves: &[u8],
     leaf_ends: &[u32],
+    levels: &[u32],
+    indexes: &[u32],
     query: &[u8],
     room: &mut [i64],
 ) {
-    let answer = search::search(names, name_ends, leaves, leaf_ends, query, &mut room[0..]);
+    let answer = search::search(
+        names,
+        name_ends,
+        leaves,
+        leaf_ends,
+        levels,
+        indexes,
+        query,
+        &mut room[0..],
+    );
     say_answer(number(answer), second(answer), room);
 }
 
@@ -103,6 +114,8 @@ pub(crate) fn search(
     name_ends: &[u32],
     leaves: &[u8],
     leaf_ends: &[u32],
+    levels: &[u32],
+    indexes: &[u32],
     query: &[u8],
     size: usize,
 ) {
@@ -113,6 +126,8 @@ pub(crate) fn search(
             name_ends,
             leaves,
             leaf_ends,
+            levels,
+            indexes,
             query,
             &mut room[0..size],
         );

@@ -111,12 +111,52 @@ module _ {A : Type 0} (R : A → A → Type 0) (never : (x : A) → R x x → �
       (List·Memᴰ·cases-cons n))
       (List·Memᴰ·cases-cons m)
 
+-- ---- rising lists by their places
+
+module _ {A : Type 0} (R : A → A → Type 0) (d : A) where
+  pub rise-at : (xs : List A) → Rise R xs → (i j : ℕ) → i < j → j < length xs → R (getD xs i d) (getD xs j d)
+  rise-at [] r i j l h = absurd (omega arith)
+  rise-at (x ∷ xs) r zero zero l h = absurd (omega arith)
+  rise-at (x ∷ xs) r zero (suc j) l h = each-member (R x) xs (getD xs j d) (r .0) (member-at xs d j (omega arith))
+  rise-at (x ∷ xs) r (suc i) zero l h = absurd (omega arith)
+  rise-at (x ∷ xs) r (suc i) (suc j) l h = rise-at xs (r .1) i j (omega arith) (omega arith)
+
+  pub at-rise : (xs : List A) → ((i j : ℕ) → i < j → j < length xs → R (getD xs i d) (getD xs j d)) → Rise R xs
+  at-rise [] f = tt
+  at-rise (x ∷ xs) f =
+      (member-each (R x) xs (λ y m. let r = at-member xs d y m in subst (R x) (r .2) (f 0 (suc (r .0)) (omega arith) (omega (arith, r .1)))), at-rise xs (λ i j l h. f (suc i) (suc j) (omega arith) (omega arith)))
+
+module _ {A B : Type 0} (f : A → B) where
+  pub each-map : (P : B → Type 0) (xs : List A) → Each P (map f xs) → Each (λ x. P (f x)) xs
+  each-map P [] e = tt
+  each-map P (x ∷ xs) e = (e .0, each-map P xs (e .1))
+
+  pub map-each : (P : B → Type 0) (xs : List A) → Each (λ x. P (f x)) xs → Each P (map f xs)
+  map-each P [] e = tt
+  map-each P (x ∷ xs) e = (e .0, map-each P xs (e .1))
+
+  pub rise-map : (R : B → B → Type 0) (xs : List A) → Rise R (map f xs) → Rise (λ x y. R (f x) (f y)) xs
+  rise-map R [] r = tt
+  rise-map R (x ∷ xs) r = (each-map (R (f x)) xs (r .0), rise-map R xs (r .1))
+
+  pub map-rise : (R : B → B → Type 0) (xs : List A) → Rise (λ x y. R (f x) (f y)) xs → Rise R (map f xs)
+  map-rise R [] r = tt
+  map-rise R (x ∷ xs) r = (map-each (R (f x)) xs (r .0), map-rise R xs (r .1))
+
 -- ---- parts and joined lists
 
 module _ {A : Type 0} where
   pub each-append : (P : A → Type 0) (xs ys : List A) → Each P xs → Each P ys → Each P (xs ++ ys)
   each-append P [] ys p q = q
   each-append P (x ∷ xs) ys p q = (p .0, each-append P xs ys (p .1) q)
+
+  pub each-parts : (P : A → Type 0) (xs ys : List A) → Each P (xs ++ ys) → Each P xs × Each P ys
+  each-parts P [] ys e = (tt, e)
+  each-parts P (x ∷ xs) ys e = let r = each-parts P xs ys (e .1) in ((e .0, r .0), r .1)
+
+  pub rise-parts : (R : A → A → Type 0) (xs ys : List A) → Rise R (xs ++ ys) → Rise R xs × Rise R ys
+  rise-parts R [] ys r = (tt, r)
+  rise-parts R (x ∷ xs) ys r = let s = rise-parts R xs ys (r .1) in ((each-parts (R x) xs ys (r .0) .0, s .0), s .1)
 
   pub rise-append : (R : A → A → Type 0) (xs ys : List A) → Rise R xs → Rise R ys → ((x y : A) → List·Memᴰ x xs → List·Memᴰ y ys → R x y) → Rise R (xs ++ ys)
   rise-append R [] ys p q f = q

@@ -54,13 +54,13 @@ words-are query tree c =
       few = let k = ap (λ (w : Words). w .count) s in omega (arith, c .fit .few);
     }
 
-module _ {query : Query} {leaves ends docids bodies lasts masks follows : List ℕ} {n size r : ℕ} {room : List ℤ} where
+module _ {query : Query} {leaves ends order docids bodies lasts masks follows : List ℕ} {n size r : ℕ} {room : List ℤ} where
   pub ran : ((nodes : List Node) (columns : ℕ) (index : List (List Term))
-      → TextIs (query .words .text) (query .words .ends) (query .words .marks) (query .words .count) nodes → LeavesAre columns leaves ends index
+      → TextIs (query .words .text) (query .words .ends) (query .words .marks) (query .words .count) nodes → LeavesAre columns leaves ends order index
       → Opened nodes index leaves docids bodies lasts masks follows n)
       → length docids ≡ maxCursors
       → RowsListed query leaves docids bodies lasts masks follows n size r room
-      → Ran query leaves ends size r room
+      → Ran query leaves ends order size r room
   ran opens k rows =
       record {
         docids = rows .listed;

@@ -29,9 +29,9 @@ abbrev pub fitted : ℕ → List ℕ → List ℤ
 fitted n docids = map docidOf (take n docids) ++ replicate (n - length docids) (pos 0)
 
 -- a run with a room of `n` numbers answers `r` and leaves `room`
-pub record Ran (query : Query) (leaves ends : List ℕ) (n r : ℕ) (room : List ℤ) : Type 0 where
+pub record Ran (query : Query) (leaves ends order : List ℕ) (n r : ℕ) (room : List ℤ) : Type 0 where
   pub docids : List ℕ
   pub rising : Rising 0 docidLimit docids
   pub counted : r ≡ length docids
   pub left : room ≡ fitted n docids
-  pub listed : (columns : ℕ) (tree : Tree) (index : List (List Term)) → IsCompiled query tree → LeavesAre columns leaves ends index → Answers index tree docids
+  pub listed : (columns : ℕ) (tree : Tree) (index : List (List Term)) → IsCompiled query tree → LeavesAre columns leaves ends order index → Answers index tree docids

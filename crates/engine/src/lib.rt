@@ -281,10 +281,16 @@ fn rows(
     }
 }
 
-// Runs a compiled query over leaves that come newest first. The docids that satisfy it, rising, go to the room as far as
-// they fit, and zeros after them. How many they are.
-pub fn run(query: query::Query, leaves: &[u8], ends: &[u32], room: &mut [i64]) -> usize
-    ensures { λ r. ⌜ Ran query (now (leaves .entry)) (now (ends .entry)) (length (now (room .entry))) r (now (room .exit)) ⌝ }
+// Runs a compiled query over leaves that come in any order; `order` has their numbers, newest first. The docids that satisfy
+// it, rising, go to the room as far as they fit, and zeros after them. How many they are.
+pub fn run(
+    query: query::Query,
+    leaves: &[u8],
+    ends: &[u32],
+    order: &[u8],
+    room: &mut [i64],
+) -> usize
+    ensures { λ r. ⌜ Ran query (now (leaves .entry)) (now (ends .entry)) (now (order .entry)) (length (now (room .entry))) r (now (room .exit)) ⌝ }
 {
     clear(room);
     let mut docids = [0u64; MAX_CURSORS];
@@ -303,6 +309,7 @@ pub fn run(query: query::Query, leaves: &[u8], ends: &[u32], room: &mut [i64]) -
         words.count,
         leaves,
         ends,
+        order,
         &mut docids,
         &mut bodies,
         &mut lasts,

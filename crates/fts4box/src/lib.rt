@@ -192,13 +192,24 @@ pub extern "C" fn fts4_search(
     name_ends: &[u32],
     leaves: &[u8],
     leaf_ends: &[u32],
+    levels: &[u32],
+    indexes: &[u32],
     query: &[u8],
     room: &mut [i64],
     second: &mut u64,
 ) -> u32
-    ensures { λ r. ⌜ Found (record { names = now (names .entry); name-ends = now («name_ends» .entry); leaves = now (leaves .entry); leaf-ends = now («leaf_ends» .entry); query = now (query .entry) }) (length (now (room .entry))) (now (room .exit)) r (now (second .exit)) ⌝ }
+    ensures { λ r. ⌜ Found (record { names = now (names .entry); name-ends = now («name_ends» .entry); leaves = now (leaves .entry); leaf-ends = now («leaf_ends» .entry); levels = now (levels .entry); indexes = now (indexes .entry); query = now (query .entry) }) (length (now (room .entry))) (now (room .exit)) r (now (second .exit)) ⌝ }
 {
-    let answer = search::search(names, name_ends, leaves, leaf_ends, query, room);
+    let answer = search::search(
+        names,
+        name_ends,
+        leaves,
+        leaf_ends,
+        levels,
+        indexes,
+        query,
+        room,
+    );
     *second = search_second(answer);
     search_number(answer)
 }

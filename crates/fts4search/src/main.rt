@@ -102,12 +102,17 @@ fn found(room: &[i64], n: usize) {
 fn answer(leaf: &[u8], size: u32, query: &[u8]) {
     let name_ends = [4u32, 8, 15];
     let leaf_ends = [size];
+    // One leaf alone: its level and index decide nothing.
+    let levels = [0u32];
+    let indexes = [0u32];
     let mut room = [0i64; ROOM];
     match search::search(
         b"nodesentoutcome",
         &name_ends,
         leaf,
         &leaf_ends,
+        &levels,
+        &indexes,
         query,
         &mut room,
     ) {

@@ -8,3 +8,4 @@ pub mod Laws
 pub mod Checks
 pub mod Once
 pub mod Nine
+pub mod Leaves

@@ -29,7 +29,7 @@ pub record CheckShape (columns : ℕ) (leaf : List ℕ) : Type 0 where
 abbrev pub leafRefusal : ℕ → ℕ → List ℕ → Refusal
 leafRefusal columns i leaf = record { due = NoLeaf columns leaf; passed = IsLeaf columns leaf; given = numbers 3 i }
 
--- "the first such leaf, counted from 0, newest first": those from number `i` on
+-- "the first such leaf, counted from 0", in the order lent (document 02, §11): those from number `i` on
 abbrev pub leafRefusals : ℕ → ℕ → List (List ℕ) → List Refusal
 leafRefusals columns i [] = []
 leafRefusals columns i (b ∷ bs) = leafRefusal columns i b ∷ leafRefusals columns (suc i) bs

@@ -10,7 +10,6 @@ use lib.ListN.{length, getD, length-append}
 use Rattle.common.proofs.Same.{same-case, same-equal}
 use Rattle.common.proofs.Lists.{map-append}
 use Rattle.doclist.specs.Doclist.{Entry}
-use Rattle.offsets.specs.Cut.{cut, startOf}
 use Rattle.leaf.specs.Leaf.{Term, Before}
 use Rattle.lexer.specs.Token.{Node}
 use Rattle.cursors.specs.Groups.{Group}
@@ -18,7 +17,7 @@ use Rattle.cursors.specs.Arrays.{Cursor, groupCursors, cursors}
 use Rattle.cursors.proofs.Each.{group-length}
 use Rattle.opening.specs.Matching.{maskOf}
 use Rattle.opening.specs.Opening.{LeavesAre, listsOf, groupOf, listsSize, groupsSize, GroupsOf, wordSize, Arrays, Opened}
-use Rattle.opening.specs.Fronts.{Shows, FrontIs, FrontsAre, LeastIs, HoldAll, WordTaken, frontWord, frontAt, allPopped, headFor, headLists, allSkipped}
+use Rattle.opening.specs.Fronts.{Shows, FrontIs, FrontsAre, LeastIs, HoldAll, WordTaken, frontWord, frontAt, allPopped, headFor, headLists, leafAt, baseAt, allSkipped}
 use Rattle.opening.specs.declared.Front.{Front}
 use Rattle.opening.specs.declared.Opening.{Opening}
 use Rattle.opening.proofs.Words.{listsTotal, leavesTotal, NoneBefore, AllNoneBefore, none-before, skipped-keeps, skipped-total, lists-are, taken-none, taken-keeps, taken-total, lists-none}
@@ -108,8 +107,8 @@ module _ {nodes : List Node} {leaves left : List (List Term)} {groups : List Gro
         total = λ weight. omega (arith, m .total weight, taken-total nodes columns word weight left, total-more weight groups (record { mask = maskOf nodes word; lists = headLists word left }));
       }
 
-pub collecting-end : {nodes : List Node} {columns : ℕ} {bytes ends : List ℕ} {leaves left : List (List Term)} {groups : List Group}
-    → LeavesAre columns bytes ends leaves → ((j : ℕ) → j < length left → getD left j [] ≡ []) → Collecting nodes leaves left groups → GroupsOf nodes leaves (length bytes) groups
+pub collecting-end : {nodes : List Node} {columns : ℕ} {bytes ends order : List ℕ} {leaves left : List (List Term)} {groups : List Group}
+    → LeavesAre columns bytes ends order leaves → ((j : ℕ) → j < length left → getD left j [] ≡ []) → Collecting nodes leaves left groups → GroupsOf nodes leaves (length bytes) groups
 collecting-end {left = left} {groups = groups} h e m =
     record {
       words = m .words;
@@ -138,15 +137,15 @@ cursors-count (g ∷ gs) =
 -- ---- the loop
 
 -- the arrays hold the cursors of the words that were taken
-pub record OpenSoFar (nodes : List Node) (columns : ℕ) (leaves : List (List Term)) (bytes ends : List ℕ) (fronts : List Front) (a : Arrays) (n : ℕ) : Type 0 where
+pub record OpenSoFar (nodes : List Node) (columns : ℕ) (leaves : List (List Term)) (bytes ends order : List ℕ) (fronts : List Front) (a : Arrays) (n : ℕ) : Type 0 where
   pub groups : List Group
   pub left : List (List Term)
-  pub fronts-are : FrontsAre nodes columns bytes ends fronts left
+  pub fronts-are : FrontsAre nodes columns bytes ends order fronts left
   pub hold : HoldAll bytes a n (cursors groups)
   pub collecting : Collecting nodes leaves left groups
 
-pub going-start : {nodes : List Node} {columns : ℕ} {leaves : List (List Term)} {bytes ends : List ℕ} {fronts : List Front} (a : Arrays)
-    → FrontsAre nodes columns bytes ends fronts (allSkipped nodes leaves) → OpenSoFar nodes columns leaves bytes ends fronts a 0
+pub going-start : {nodes : List Node} {columns : ℕ} {leaves : List (List Term)} {bytes ends order : List ℕ} {fronts : List Front} (a : Arrays)
+    → FrontsAre nodes columns bytes ends order fronts (allSkipped nodes leaves) → OpenSoFar nodes columns leaves bytes ends order fronts a 0
 going-start {nodes} {leaves = leaves} a f =
     record {
       groups = [];
@@ -161,10 +160,10 @@ going-start {nodes} {leaves = leaves} a f =
       collecting = collecting-start nodes leaves;
     }
 
-module _ (nodes : List Node) (columns : ℕ) (leaves : List (List Term)) (bytes ends : List ℕ) (fronts : List Front) (a : Arrays) (n best : ℕ)
-    (g : OpenSoFar nodes columns leaves bytes ends fronts a n) (l : LeastIs fronts (length ends) best) where
+module _ (nodes : List Node) (columns : ℕ) (leaves : List (List Term)) (bytes ends order : List ℕ) (fronts : List Front) (a : Arrays) (n best : ℕ)
+    (g : OpenSoFar nodes columns leaves bytes ends order fronts a n) (l : LeastIs fronts (length order) best) where
   -- no front has a word: all is taken
-  pub going-end : LeavesAre columns bytes ends leaves → length ends ≤ best → Opened nodes leaves bytes (a .docids) (a .bodies) (a .lasts) (a .masks) (a .follows) n
+  pub going-end : LeavesAre columns bytes ends order leaves → length order ≤ best → Opened nodes leaves bytes (a .docids) (a .bodies) (a .lasts) (a .masks) (a .follows) n
   going-end h e =
       record {
         groups = g .groups;
@@ -172,28 +171,28 @@ module _ (nodes : List Node) (columns : ℕ) (leaves : List (List Term)) (bytes 
         cursors-are = record { small = h .small; hold = g .hold };
       }
     where
-      no-words : (j : ℕ) → j < length ends → (ts : List Term) → getD (g .left) j [] ≡ ts → getD (g .left) j [] ≡ []
+      no-words : (j : ℕ) → j < length order → (ts : List Term) → getD (g .left) j [] ≡ ts → getD (g .left) j [] ≡ []
       no-words j z [] q = q
       no-words j z (t ∷ ts) q =
-          let s = subst (FrontIs nodes columns (getD (cut bytes ends) j []) (startOf ends j) (frontAt fronts j)) q (g .fronts-are .each j z) in
+          let s = subst (FrontIs nodes columns (leafAt bytes ends order j) (baseAt ends order j) (frontAt fronts j)) q (g .fronts-are .each j z) in
           absurd (s .some (l .none (omega (arith, l .within)) j z))
 
-  module _ (b : best < length ends) where
+  module _ (b : best < length order) where
     -- the least front shows a term
     shows : (t : Term) × (ts : List Term) × (getD (g .left) best [] ≡ t ∷ ts)
-        × Shows nodes columns (getD (cut bytes ends) best []) (startOf ends best) (frontAt fronts best) t ts
+        × Shows nodes columns (leafAt bytes ends order best) (baseAt ends order best) (frontAt fronts best) t ts
     shows = go (getD (g .left) best []) refl (g .fronts-are .each best b)
       where
-        go : (ts : List Term) → getD (g .left) best [] ≡ ts → FrontIs nodes columns (getD (cut bytes ends) best []) (startOf ends best) (frontAt fronts best) ts
+        go : (ts : List Term) → getD (g .left) best [] ≡ ts → FrontIs nodes columns (leafAt bytes ends order best) (baseAt ends order best) (frontAt fronts best) ts
             → (t : Term) × (us : List Term) × (getD (g .left) best [] ≡ t ∷ us)
-            × Shows nodes columns (getD (cut bytes ends) best []) (startOf ends best) (frontAt fronts best) t us
+            × Shows nodes columns (leafAt bytes ends order best) (baseAt ends order best) (frontAt fronts best) t us
         go [] q s = absurd (l .some b s)
         go (t ∷ us) q s = (t, us, q, s)
 
     none-first : AllNoneBefore columns (frontWord (frontAt fronts best)) (g .left)
     none-first = none-before columns (frontWord (frontAt fronts best)) (g .left) (λ j z. one-leaf j (omega (arith, g .fronts-are .count)) (getD (g .left) j []) (g .fronts-are .each j (omega (arith, g .fronts-are .count))))
       where
-        one-leaf : (j : ℕ) → j < length ends → (ts : List Term) → FrontIs nodes columns (getD (cut bytes ends) j []) (startOf ends j) (frontAt fronts j) ts
+        one-leaf : (j : ℕ) → j < length order → (ts : List Term) → FrontIs nodes columns (leafAt bytes ends order j) (baseAt ends order j) (frontAt fronts j) ts
             → NoneBefore columns (frontWord (frontAt fronts best)) ts
         one-leaf j z [] s = tt
         one-leaf j z (t ∷ ts) s =
@@ -210,10 +209,10 @@ module _ (nodes : List Node) (columns : ℕ) (leaves : List (List Term)) (bytes 
         omega (arith, heads-split w (g .left) best (omega (arith, g .fronts-are .count)), ap length e)
 
     -- the arrays have room for the word's lists; when they are written, there are more cursors than before
-    pub going-next : (a′ : Arrays) (r : Opening) → LeavesAre columns bytes ends leaves → length bytes < wordSize * (length (a .docids) + 1)
-        → ((left : List (List Term)) (cs : List Cursor) → FrontsAre nodes columns bytes ends fronts left → HoldAll bytes a n cs
-        → n + length (headLists (frontWord (frontAt fronts best)) left) ≤ length (a .docids) → WordTaken nodes columns (frontWord (frontAt fronts best)) bytes ends a′ left cs r)
-        → (n < r .n) × OpenSoFar nodes columns leaves bytes ends (r .fronts) a′ (r .n)
+    pub going-next : (a′ : Arrays) (r : Opening) → LeavesAre columns bytes ends order leaves → length bytes < wordSize * (length (a .docids) + 1)
+        → ((left : List (List Term)) (cs : List Cursor) → FrontsAre nodes columns bytes ends order fronts left → HoldAll bytes a n cs
+        → n + length (headLists (frontWord (frontAt fronts best)) left) ≤ length (a .docids) → WordTaken nodes columns (frontWord (frontAt fronts best)) bytes ends order a′ left cs r)
+        → (n < r .n) × OpenSoFar nodes columns leaves bytes ends order (r .fronts) a′ (r .n)
     going-next a′ r h s take =
         let w : List ℕ = frontWord (frontAt fronts best) in
         let ls : List (List Entry) = headLists w (g .left) in

@@ -27,7 +27,7 @@ has-mask f g h e = false-not-true {X = ⊥} (sym (simp (eq-eqb (f .mask) 0 e)) �
 
 -- ---- cursors
 
-pub not-opened : {bytes ends : List ℕ} {before after : Arrays} {n : ℕ} → Openable bytes ends before → (Openable bytes ends before → ⊥) → NotOpened before after n
+pub not-opened : {bytes ends order : List ℕ} {before after : Arrays} {n : ℕ} → Openable bytes ends order before → (Openable bytes ends order before → ⊥) → NotOpened before after n
 not-opened is not = absurd (not is)
 
 pub frame-none : (bytes : List ℕ) (a : Arrays) → OpenFrame bytes a a 0

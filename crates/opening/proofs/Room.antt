@@ -1,14 +1,16 @@
 -- How much room terms take in a leaf: each at least 6 bytes, and at least the bytes of its list. So a place in the arrays for
 -- every 6 bytes is enough (`words-fit`), and all lists together take no more bytes than the leaves (`lists-fit`).
-use Prim.Native.Nat.{ℕ, _+_, _*_, _-_, _≤_, _<_}
+use Prim.Native.Nat.{ℕ, _+_, _*_, _≤_, _<_}
 use native.Mathlib.Omega.{arith}
-use mathlib.Core.Path.{_≡_, refl, ap}
+use mathlib.Core.Path.{_≡_, refl, sym, ap, _∙_}
 use mathlib.Core.List.{List, [], _∷_, _++_, flatten}
-use lib.ListN.{length, drop, length-append, length-drop}
+use lib.ListN.{length, getD, drop, length-append, length-drop}
 use Rattle.varint.specs.Varint.{encode, maxVarint}
 use Rattle.varint.proofs.Laws.{encode-pos}
+use Rattle.directory.specs.Order.{upTo, inOrder}
+use Rattle.directory.proofs.Permutations.{perm-map, perm-flatten, in-order-all}
 use Rattle.offsets.specs.Cut.{cut}
-use Rattle.offsets.proofs.Cuts.{cut-joined}
+use Rattle.offsets.proofs.Cuts.{length-cut, cut-joined}
 use Rattle.doclist.specs.Docid.{zeroKey, bitsOf}
 use Rattle.doclist.specs.Doclist.{Entry, entryBytes, encodeFrom, encodeList}
 use Rattle.doclist.specs.Doclist as doclist
@@ -88,9 +90,17 @@ leaves-size columns (b ∷ bs) (ts ∷ leaves) h =
     let z = lists-size columns [] ts (h .0 .good .terms) in
     let o = terms-one ts in (omega arith, omega arith)
 
-module _ {columns : ℕ} {bytes ends : List ℕ} {leaves : List (List Term)} (h : LeavesAre columns bytes ends leaves) where
+module _ {columns : ℕ} {bytes ends order : List ℕ} {leaves : List (List Term)} (h : LeavesAre columns bytes ends order leaves) where
+  -- in whatever order, the leaves take all bytes
+  all-bytes : length (flatten (inOrder [] (cut bytes ends) order)) ≡ length bytes
+  all-bytes =
+      sym (perm-flatten (perm-map (λ i. getD (cut bytes ends) i []) (h .each-once)))
+      ∙ ap (λ (n : ℕ). length (flatten (inOrder [] (cut bytes ends) (upTo n)))) (sym (length-cut bytes ends))
+      ∙ ap (λ (bs : List (List ℕ)). length (flatten bs)) (in-order-all [] (cut bytes ends))
+      ∙ ap length (cut-joined bytes ends (h .cuts))
+
   pub words-fit : wordSize * leavesTotal one leaves ≤ length bytes
-  words-fit = omega (arith, leaves-size columns (cut bytes ends) leaves (h .are) .0, ap length (cut-joined bytes ends (h .cuts)))
+  words-fit = omega (arith, leaves-size columns (inOrder [] (cut bytes ends) order) leaves (h .are) .0, all-bytes)
 
   pub lists-fit : leavesTotal listSize leaves ≤ length bytes
-  lists-fit = omega (arith, leaves-size columns (cut bytes ends) leaves (h .are) .1, ap length (cut-joined bytes ends (h .cuts)))
+  lists-fit = omega (arith, leaves-size columns (inOrder [] (cut bytes ends) order) leaves (h .are) .1, all-bytes)

@@ -8,7 +8,7 @@ use mathlib.Core.Path.{_≡_, refl, sym, ap, _∙_, subst}
 use mathlib.Core.Logic.{inl, ⊎-elim}
 use mathlib.Core.Bool.{true, false}
 use mathlib.Core.List.{List, [], _∷_, _++_, append-assoc, append-nil}
-use lib.ListN.{length, getD, take, drop, set, length-append, length-set, List·getD-append}
+use lib.ListN.{length, getD, take, drop, set, length-append, length-set, List·getD-append, List·getD-eq-default}
 use lib.Seq.{take-suc, take-all, drop-drop, drop-append-le, getD-set-same, getD-set-other, getD-at, split-at}
 use borrow.Author.Tests.{ne-eqb}
 use Rattle.common.specs.Bytes.{same}
@@ -16,6 +16,7 @@ use Rattle.common.proofs.Cases.{split, same-or, bool-case, false-not-true}
 use Rattle.common.proofs.Same.{same-true, same-refl}
 use Rattle.offsets.specs.Cut.{Cuts, cut, startOf}
 use Rattle.offsets.proofs.Cuts.{cut-here, cut-start, cut-end, cut-length}
+use Rattle.offsets.proofs.CutSteps.{no-part}
 use Rattle.doclist.specs.Doclist.{Entry}
 use Rattle.leaf.specs.Leaf.{Term}
 use Rattle.leaf.specs.Rest.{RestIs}
@@ -25,29 +26,31 @@ use Rattle.cursors.proofs.Bodies.{last-inside}
 use Rattle.cursors.proofs.Each.{group-length}
 use Rattle.opening.specs.Matching.{maskOf}
 use Rattle.opening.specs.Opening.{Arrays, AsLong, Openable, OpenFrame}
-use Rattle.opening.specs.Fronts.{frontWord, skipTo, Shows, FrontIs, hasWord, frontAt, noFront, Placed, popped, allPopped, headFor, headLists, FrontsAre, Able, HasPlace, withCursor, HoldAll, WordTaken}
+use Rattle.opening.specs.Fronts.{frontWord, skipTo, Shows, FrontIs, hasWord, frontAt, noFront, Placed, popped, allPopped, headFor, headLists, leafAt, baseAt, FrontsAre, Able, HasPlace, withCursor, HoldAll, WordTaken}
 use Rattle.opening.specs.declared.Front.{Front}
 use Rattle.opening.proofs.Masks.{matches-law}
 use Rattle.opening.proofs.Framing.{has-mask}
 
 -- ---- from a leaf to all leaves
 
-module _ (bytes ends : List ℕ) (cuts : Cuts bytes ends) (j : ℕ) (h : j < length ends) where
-  pub list-lifted : (es : List Entry) (docid body last : ℕ) → 0 < length es → ListAt (getD (cut bytes ends) j []) es docid body last
-      → ListAt bytes es docid (startOf ends j + body) (startOf ends j + last)
+module _ (bytes ends : List ℕ) (cuts : Cuts bytes ends) (i : ℕ) where
+  pub list-lifted : (es : List Entry) (docid body last : ℕ) → 0 < length es → ListAt (getD (cut bytes ends) i []) es docid body last
+      → ListAt bytes es docid (startOf ends i + body) (startOf ends i + last)
   list-lifted [] docid body last z l = absurd (omega arith)
   list-lifted (e ∷ rest) docid body last z l =
-      let leaf : List ℕ = getD (cut bytes ends) j [] in
-      let tail : List ℕ = drop (getD ends j 0) bytes in
-      let i = last-inside l in
+      let leaf : List ℕ = getD (cut bytes ends) i [] in
+      let tail : List ℕ = drop (getD ends i 0) bytes in
+      let k = last-inside l in
+      -- there is such a leaf, as it has bytes
+      let h : i < length ends = split i (length ends) (λ x. x) (λ x. absurd (omega (arith, k .0, k .1, ap length (no-part bytes ends i x)))) in
       record {
         after = l .after ++ tail;
         same = l .same;
         some = omega (arith, l .some);
         bytes =
-            sym (drop-drop body (startOf ends j) bytes)
-            ∙ ap (drop body) (cut-here bytes ends cuts j h)
-            ∙ drop-append-le body leaf tail (omega (arith, i .0, i .1))
+            sym (drop-drop body (startOf ends i) bytes)
+            ∙ ap (drop body) (cut-here bytes ends cuts i h)
+            ∙ drop-append-le body leaf tail (omega (arith, k .0, k .1))
             ∙ ap (λ (s : List ℕ). s ++ tail) (l .bytes)
             ∙ simp append-assoc;
         ends = omega (arith, l .ends);
@@ -188,16 +191,16 @@ module _ (nodes : List Node) (columns : ℕ) (leaf : List ℕ) (base : ℕ) (f g
 -- ---- the pass
 
 -- `j` leaves are passed: the word was taken from those of their fronts that had it
-pub record Taking (nodes : List Node) (columns : ℕ) (word bytes ends : List ℕ) (left : List (List Term)) (cs : List Cursor) (a : Arrays) (fronts : List Front) (n follow j : ℕ) : Type 0 where
-  pub count : length left ≡ length ends
-  pub passed : (k : ℕ) → k < j → FrontIs nodes columns (getD (cut bytes ends) k []) (startOf ends k) (frontAt fronts k) (popped nodes word (getD left k []))
-  pub ahead : (k : ℕ) → j ≤ k → k < length ends → FrontIs nodes columns (getD (cut bytes ends) k []) (startOf ends k) (frontAt fronts k) (getD left k [])
+pub record Taking (nodes : List Node) (columns : ℕ) (word bytes ends order : List ℕ) (left : List (List Term)) (cs : List Cursor) (a : Arrays) (fronts : List Front) (n follow j : ℕ) : Type 0 where
+  pub count : length left ≡ length order
+  pub passed : (k : ℕ) → k < j → FrontIs nodes columns (leafAt bytes ends order k) (baseAt ends order k) (frontAt fronts k) (popped nodes word (getD left k []))
+  pub ahead : (k : ℕ) → j ≤ k → k < length order → FrontIs nodes columns (leafAt bytes ends order k) (baseAt ends order k) (frontAt fronts k) (getD left k [])
   pub hold : HoldAll bytes a n (cs ++ groupCursors (maskOf nodes word) 0 (headLists word (take j left)))
   pub follows-as : follow ≡ followOf 0 (headLists word (take j left))
 
-pub taking-start : {nodes : List Node} {columns : ℕ} {bytes ends : List ℕ} {left : List (List Term)} {cs : List Cursor} {a : Arrays} {fronts : List Front} {n : ℕ} (word : List ℕ)
-    → FrontsAre nodes columns bytes ends fronts left → HoldAll bytes a n cs
-    → Taking nodes columns word bytes ends left cs a fronts n 0 0
+pub taking-start : {nodes : List Node} {columns : ℕ} {bytes ends order : List ℕ} {left : List (List Term)} {cs : List Cursor} {a : Arrays} {fronts : List Front} {n : ℕ} (word : List ℕ)
+    → FrontsAre nodes columns bytes ends order fronts left → HoldAll bytes a n cs
+    → Taking nodes columns word bytes ends order left cs a fronts n 0 0
 taking-start {bytes = bytes} {cs = cs} {a} {n = n} word f h =
     record {
       count = f .count;
@@ -207,8 +210,8 @@ taking-start {bytes = bytes} {cs = cs} {a} {n = n} word f h =
       follows-as = refl;
     }
 
-module _ (nodes : List Node) (columns : ℕ) (bytes ends : List ℕ) (left : List (List Term)) (cs : List Cursor) (a : Arrays) (fronts : List Front) (n follow j : ℕ) (front : Front)
-    (inside : j < length ends) (t : Taking nodes columns (frontWord front) bytes ends left cs a fronts n follow j) where
+module _ (nodes : List Node) (columns : ℕ) (bytes ends order : List ℕ) (left : List (List Term)) (cs : List Cursor) (a : Arrays) (fronts : List Front) (n follow j : ℕ) (front : Front)
+    (inside : j < length order) (t : Taking nodes columns (frontWord front) bytes ends order left cs a fronts n follow j) where
   -- how many cursors there are
   pub taking-count : n ≡ length cs + length (headLists (frontWord front) (take j left))
   taking-count =
@@ -220,9 +223,9 @@ module _ (nodes : List Node) (columns : ℕ) (bytes ends : List ℕ) (left : Lis
       )
 
   pub taking-other : hasWord (frontAt fronts j) front ≡ false
-      → Taking nodes columns (frontWord front) bytes ends left cs a fronts n follow (j + 1)
+      → Taking nodes columns (frontWord front) bytes ends order left cs a fronts n follow (j + 1)
   taking-other e =
-      let k = front-not nodes columns (getD (cut bytes ends) j []) (startOf ends j) (frontAt fronts j) front (getD left j []) (t .ahead j (omega arith) inside) e in
+      let k = front-not nodes columns (leafAt bytes ends order j) (baseAt ends order j) (frontAt fronts j) front (getD left j []) (t .ahead j (omega arith) inside) e in
       let q : headLists (frontWord front) (take (j + 1) left) ≡ headLists (frontWord front) (take j left) =
       heads-next (frontWord front) left j (omega (arith, t .count))
       ∙ ap (λ (l : List (List Entry)). headLists (frontWord front) (take j left) ++ l) (k .0)
@@ -232,8 +235,8 @@ module _ (nodes : List Node) (columns : ℕ) (bytes ends : List ℕ) (left : Lis
         passed = λ i z.
             split i j (λ y. t .passed i y)
             (λ y. let x : j ≡ i = omega arith in
-            subst (λ (m : ℕ). FrontIs nodes columns (getD (cut bytes ends) m []) (startOf ends m) (frontAt fronts m) (popped nodes (frontWord front) (getD left m []))) x
-            (subst (FrontIs nodes columns (getD (cut bytes ends) j []) (startOf ends j) (frontAt fronts j)) (sym (k .1)) (t .ahead j (omega arith) inside)));
+            subst (λ (m : ℕ). FrontIs nodes columns (leafAt bytes ends order m) (baseAt ends order m) (frontAt fronts m) (popped nodes (frontWord front) (getD left m []))) x
+            (subst (FrontIs nodes columns (leafAt bytes ends order j) (baseAt ends order j) (frontAt fronts j)) (sym (k .1)) (t .ahead j (omega arith) inside)));
         ahead = λ i y z. t .ahead i (omega arith) z;
         hold = subst (λ (l : List (List Entry)). HoldAll bytes a n (cs ++ groupCursors (maskOf nodes (frontWord front)) 0 l)) (sym q) (t .hold);
         follows-as = t .follows-as ∙ ap (followOf 0) (sym q);
@@ -241,19 +244,19 @@ module _ (nodes : List Node) (columns : ℕ) (bytes ends : List ℕ) (left : Lis
 
   -- the arrays are not full
   pub taking-full : hasWord (frontAt fronts j) front ≡ true → length cs + length (headLists (frontWord front) left) ≤ length (a .docids) → length (a .docids) ≤ n
-      → WordTaken nodes columns (frontWord front) bytes ends a left cs (record { fronts = fronts; n = n })
+      → WordTaken nodes columns (frontWord front) bytes ends order a left cs (record { fronts = fronts; n = n })
   taking-full e r full =
-      let k = front-this nodes columns (getD (cut bytes ends) j []) (startOf ends j) (frontAt fronts j) front (getD left j []) (t .ahead j (omega arith) inside) e in
+      let k = front-this nodes columns (leafAt bytes ends order j) (baseAt ends order j) (frontAt fronts j) front (getD left j []) (t .ahead j (omega arith) inside) e in
       absurd (omega (arith, taking-count, heads-split (frontWord front) left j (omega (arith, t .count)), ap length (k .5)))
 
   pub taking-this : {b : Arrays} (other : Front) → Cuts bytes ends → hasWord (frontAt fronts j) front ≡ true → HasPlace a n → j < length fronts
-      → ((ts : List Term) → RestIs columns (getD (cut bytes ends) j []) (frontAt fronts j .next) (frontWord (frontAt fronts j)) ts []
-      → FrontIs nodes columns (getD (cut bytes ends) j []) (startOf ends j) other (skipTo nodes ts))
-      → b ≡ withCursor a n (frontAt fronts j) follow → Taking nodes columns (frontWord front) bytes ends left cs b (set fronts j other) (n + 1) 1 (j + 1)
+      → ((ts : List Term) → RestIs columns (leafAt bytes ends order j) (frontAt fronts j .next) (frontWord (frontAt fronts j)) ts []
+      → FrontIs nodes columns (leafAt bytes ends order j) (baseAt ends order j) other (skipTo nodes ts))
+      → b ≡ withCursor a n (frontAt fronts j) follow → Taking nodes columns (frontWord front) bytes ends order left cs b (set fronts j other) (n + 1) 1 (j + 1)
   taking-this other cuts e place hj seeks p =
       let f : Front = frontAt fronts j in
       let w : List ℕ = frontWord front in
-      let k = front-this nodes columns (getD (cut bytes ends) j []) (startOf ends j) f front (getD left j []) (t .ahead j (omega arith) inside) e in
+      let k = front-this nodes columns (leafAt bytes ends order j) (baseAt ends order j) f front (getD left j []) (t .ahead j (omega arith) inside) e in
       let u : Term = k .0 in
       let s = k .3 in
       let q : headLists w (take (j + 1) left) ≡ headLists w (take j left) ++ (u .entries ∷ []) =
@@ -261,15 +264,15 @@ module _ (nodes : List Node) (columns : ℕ) (bytes ends : List ℕ) (left : Lis
       let x : Cursor = record { mask = maskOf nodes w; follows = followOf 0 (headLists w (take j left)); left = u .entries } in
       let at : ListAt bytes (u .entries) (f .docid) (f .body) (f .last) =
       subst (λ (b : ℕ). ListAt bytes (u .entries) (f .docid) b (f .last)) (sym (s .body-at))
-      (subst (λ (l : ℕ). ListAt bytes (u .entries) (f .docid) (startOf ends j + s .body) l) (sym (s .last-at))
-      (list-lifted bytes ends cuts j inside (u .entries) (f .docid) (s .body) (s .last) (s .good .list .some-entry) (s .list))) in
+      (subst (λ (l : ℕ). ListAt bytes (u .entries) (f .docid) (baseAt ends order j + s .body) l) (sym (s .last-at))
+      (list-lifted bytes ends cuts (getD order j 0) (u .entries) (f .docid) (s .body) (s .last) (s .good .list .some-entry) (s .list))) in
       let m : f .mask ≡ maskOf nodes w = s .mask ∙ ap (maskOf nodes) (k .4) in
       let more = hold-more (t .hold) f follow x place at m (t .follows-as) in
-      let moved = seeks (k .1) (subst (λ (b : List ℕ). RestIs columns (getD (cut bytes ends) j []) (f .next) b (k .1) []) (sym (s .word)) (s .rest)) in
-      subst (λ (x : Arrays). Taking nodes columns w bytes ends left cs x (set fronts j other) (n + 1) 1 (j + 1)) (sym p)
+      let moved = seeks (k .1) (subst (λ (b : List ℕ). RestIs columns (leafAt bytes ends order j) (f .next) b (k .1) []) (sym (s .word)) (s .rest)) in
+      subst (λ (x : Arrays). Taking nodes columns w bytes ends order left cs x (set fronts j other) (n + 1) 1 (j + 1)) (sym p)
       (record {
         count = t .count;
-        passed = λ i z. split i j (λ y. old i y) (λ y. this i (omega arith) (subst (FrontIs nodes columns (getD (cut bytes ends) j []) (startOf ends j) other) (sym (k .6)) moved));
+        passed = λ i z. split i j (λ y. old i y) (λ y. this i (omega arith) (subst (FrontIs nodes columns (leafAt bytes ends order j) (baseAt ends order j) other) (sym (k .6)) moved));
         ahead = λ i y z. later i (omega arith) z;
         hold =
             subst (HoldAll bytes (withCursor a n f follow) (n + 1))
@@ -282,21 +285,21 @@ module _ (nodes : List Node) (columns : ℕ) (bytes ends : List ℕ) (left : Lis
       kept : (i : ℕ) → (i ≡ j → ⊥) → frontAt (set fronts j other) i ≡ frontAt fronts i
       kept i ne = getD-set-other fronts j i other noFront ne
 
-      old : (i : ℕ) → i < j → FrontIs nodes columns (getD (cut bytes ends) i []) (startOf ends i) (frontAt (set fronts j other) i) (popped nodes (frontWord front) (getD left i []))
+      old : (i : ℕ) → i < j → FrontIs nodes columns (leafAt bytes ends order i) (baseAt ends order i) (frontAt (set fronts j other) i) (popped nodes (frontWord front) (getD left i []))
       old i y =
-          subst (λ (f : Front). FrontIs nodes columns (getD (cut bytes ends) i []) (startOf ends i) f (popped nodes (frontWord front) (getD left i [])))
+          subst (λ (f : Front). FrontIs nodes columns (leafAt bytes ends order i) (baseAt ends order i) f (popped nodes (frontWord front) (getD left i [])))
           (sym (kept i (λ (q : i ≡ j). omega arith))) (t .passed i y)
 
-      later : (i : ℕ) → j < i → i < length ends → FrontIs nodes columns (getD (cut bytes ends) i []) (startOf ends i) (frontAt (set fronts j other) i) (getD left i [])
+      later : (i : ℕ) → j < i → i < length order → FrontIs nodes columns (leafAt bytes ends order i) (baseAt ends order i) (frontAt (set fronts j other) i) (getD left i [])
       later i y z =
-          subst (λ (f : Front). FrontIs nodes columns (getD (cut bytes ends) i []) (startOf ends i) f (getD left i []))
+          subst (λ (f : Front). FrontIs nodes columns (leafAt bytes ends order i) (baseAt ends order i) f (getD left i []))
           (sym (kept i (λ (q : i ≡ j). omega arith))) (t .ahead i (omega arith) z)
 
-      this : (i : ℕ) → i ≡ j → FrontIs nodes columns (getD (cut bytes ends) j []) (startOf ends j) other (popped nodes (frontWord front) (getD left j []))
-          → FrontIs nodes columns (getD (cut bytes ends) i []) (startOf ends i) (frontAt (set fronts j other) i) (popped nodes (frontWord front) (getD left i []))
+      this : (i : ℕ) → i ≡ j → FrontIs nodes columns (leafAt bytes ends order j) (baseAt ends order j) other (popped nodes (frontWord front) (getD left j []))
+          → FrontIs nodes columns (leafAt bytes ends order i) (baseAt ends order i) (frontAt (set fronts j other) i) (popped nodes (frontWord front) (getD left i []))
       this i q g =
-          subst (λ (m : ℕ). FrontIs nodes columns (getD (cut bytes ends) m []) (startOf ends m) (frontAt (set fronts j other) m) (popped nodes (frontWord front) (getD left m []))) (sym q)
-          (subst (λ (f : Front). FrontIs nodes columns (getD (cut bytes ends) j []) (startOf ends j) f (popped nodes (frontWord front) (getD left j [])))
+          subst (λ (m : ℕ). FrontIs nodes columns (leafAt bytes ends order m) (baseAt ends order m) (frontAt (set fronts j other) m) (popped nodes (frontWord front) (getD left m []))) (sym q)
+          (subst (λ (f : Front). FrontIs nodes columns (leafAt bytes ends order j) (baseAt ends order j) f (popped nodes (frontWord front) (getD left j [])))
           (sym (getD-set-same fronts j other noFront hj)) g)
 
 -- ---- every leaf is passed
@@ -311,16 +314,16 @@ popped-length : (nodes : List Node) (word : List ℕ) (left : List (List Term)) 
 popped-length nodes word [] = refl
 popped-length nodes word (ts ∷ left) = ap suc (popped-length nodes word left)
 
-pub taking-end : {nodes : List Node} {columns : ℕ} {word bytes ends : List ℕ} {left : List (List Term)} {cs : List Cursor} {a : Arrays} {fronts : List Front} {n follow : ℕ} (j : ℕ)
-    → length ends ≤ j → Taking nodes columns word bytes ends left cs a fronts n follow j
-    → WordTaken nodes columns word bytes ends a left cs (record { fronts = fronts; n = n })
-taking-end {nodes} {columns} {word} {bytes} {ends} {left} {cs} {a} {fronts} {n} j h t =
+pub taking-end : {nodes : List Node} {columns : ℕ} {word bytes ends order : List ℕ} {left : List (List Term)} {cs : List Cursor} {a : Arrays} {fronts : List Front} {n follow : ℕ} (j : ℕ)
+    → length order ≤ j → Taking nodes columns word bytes ends order left cs a fronts n follow j
+    → WordTaken nodes columns word bytes ends order a left cs (record { fronts = fronts; n = n })
+taking-end {nodes} {columns} {word} {bytes} {ends} {order} {left} {cs} {a} {fronts} {n} j h t =
     record {
       fronts-are =
           record {
             count = popped-length nodes word left ∙ t .count;
             each = λ k z.
-                subst (FrontIs nodes columns (getD (cut bytes ends) k []) (startOf ends k) (frontAt fronts k)) (sym (popped-at nodes word left k)) (t .passed k (omega arith));
+                subst (FrontIs nodes columns (leafAt bytes ends order k) (baseAt ends order k) (frontAt fronts k)) (sym (popped-at nodes word left k)) (t .passed k (omega arith));
           };
       hold =
           subst (λ (l : List (List Term)). HoldAll bytes a n (cs ++ groupCursors (maskOf nodes word) 0 (headLists word l)))
@@ -337,14 +340,20 @@ pub record Lengths (before after : Arrays) : Type 0 where
 
 -- ---- what a turn hands over
 
--- a leaf lies inside all leaves
-pub leaf-inside : (bytes ends : List ℕ) (j base : ℕ) (leaf : List ℕ) → Cuts bytes ends → j < length ends → leaf ≡ getD (cut bytes ends) j [] → base ≡ startOf ends j
+-- a leaf lies inside all leaves, and so does the place where none is
+pub leaf-inside : (bytes ends : List ℕ) (i base : ℕ) (leaf : List ℕ) → Cuts bytes ends → leaf ≡ getD (cut bytes ends) i [] → base ≡ startOf ends i
     → base + length leaf ≤ length bytes
-leaf-inside bytes ends j base leaf cuts h e q =
-    omega (arith, ap length e, cut-length bytes ends cuts j h, cut-start bytes ends cuts j h, cut-end bytes ends cuts j h)
+leaf-inside bytes ends i base leaf cuts e q =
+    split i (length ends)
+    (λ h. omega (arith, ap length e, cut-length bytes ends cuts i h, cut-start bytes ends cuts i h, cut-end bytes ends cuts i h))
+    (λ h. omega (arith, ap length e, ap length (no-part bytes ends i h), start-inside i))
+  where
+    start-inside : (k : ℕ) → startOf ends k ≤ length bytes
+    start-inside zero = omega arith
+    start-inside (suc k) = split k (length ends) (λ h. cuts .none-passes k h) (λ h. omega (arith, List·getD-eq-default ends 0 h))
 
-pub able-more : {bytes ends : List ℕ} {fronts : List Front} {a : Arrays} {n : ℕ} (j : ℕ) (other : Front)
-    → Able bytes ends fronts a n → n < length (a .docids) → j < length fronts → Placed (length bytes) other → Able bytes ends (set fronts j other) a (n + 1)
+pub able-more : {bytes ends order : List ℕ} {fronts : List Front} {a : Arrays} {n : ℕ} (j : ℕ) (other : Front)
+    → Able bytes ends order fronts a n → n < length (a .docids) → j < length fronts → Placed (length bytes) other → Able bytes ends order (set fronts j other) a (n + 1)
 able-more {bytes} {fronts = fronts} j other b h hj s =
     record {
       openable = b .openable;
@@ -385,10 +394,10 @@ rooms-as r l = (
 )
 
 -- a place that the first array has, the others have too
-pub has-place : {bytes ends : List ℕ} {a b : Arrays} {n : ℕ} → Openable bytes ends a → Lengths a b → n < length (b .docids) → HasPlace b n
+pub has-place : {bytes ends order : List ℕ} {a b : Arrays} {n : ℕ} → Openable bytes ends order a → Lengths a b → n < length (b .docids) → HasPlace b n
 has-place o l h = let r = rooms-as (o .rooms) l in (h, omega (arith, r .0), omega (arith, r .1), omega (arith, r .2), omega (arith, r .3))
 
-pub able-as : {bytes ends : List ℕ} {fronts : List Front} {a b : Arrays} {n : ℕ} → Able bytes ends fronts a n → Lengths a b → Able bytes ends fronts b n
+pub able-as : {bytes ends order : List ℕ} {fronts : List Front} {a b : Arrays} {n : ℕ} → Able bytes ends order fronts a n → Lengths a b → Able bytes ends order fronts b n
 able-as h l =
     let o = h .openable in
     record {

@@ -108,17 +108,24 @@ abbrev pub headLists : List ℕ → List (List Term) → List (List Entry)
 headLists word [] = []
 headLists word (ts ∷ left) = headFor word ts ++ headLists word left
 
--- what is left of each of the leaves, from its front on
-pub record FrontsAre (nodes : List Node) (columns : ℕ) (bytes ends : List ℕ) (fronts : List Front) (left : List (List Term)) : Type 0 where
-  pub count : length left ≡ length ends
-  pub each : (j : ℕ) → j < length ends → FrontIs nodes columns (getD (cut bytes ends) j []) (startOf ends j) (frontAt fronts j) (getD left j [])
+-- the leaf whose front is number `j`, and where it begins
+abbrev pub leafAt : List ℕ → List ℕ → List ℕ → ℕ → List ℕ
+leafAt bytes ends order j = getD (cut bytes ends) (getD order j 0) []
+
+abbrev pub baseAt : List ℕ → List ℕ → ℕ → ℕ
+baseAt ends order j = startOf ends (getD order j 0)
+
+-- what is left of each of the leaves, newest first, from its front on
+pub record FrontsAre (nodes : List Node) (columns : ℕ) (bytes ends order : List ℕ) (fronts : List Front) (left : List (List Term)) : Type 0 where
+  pub count : length left ≡ length order
+  pub each : (j : ℕ) → j < length order → FrontIs nodes columns (leafAt bytes ends order j) (baseAt ends order j) (frontAt fronts j) (getD left j [])
 
 -- ---- writing its cursors
 
 -- what the pass needs to be safe: leaves that can be opened, and fronts that lie in them
-pub record Able (bytes ends : List ℕ) (fronts : List Front) (a : Arrays) (n : ℕ) : Type 0 where
-  pub openable : Openable bytes ends a
-  pub placed : (j : ℕ) → j < length ends → Placed (length bytes) (frontAt fronts j)
+pub record Able (bytes ends order : List ℕ) (fronts : List Front) (a : Arrays) (n : ℕ) : Type 0 where
+  pub openable : Openable bytes ends order a
+  pub placed : (j : ℕ) → j < length order → Placed (length bytes) (frontAt fronts j)
   pub within : n ≤ length (a .docids)
 
 -- every array has the place `n`
@@ -134,8 +141,8 @@ abbrev pub HoldAll : List ℕ → Arrays → ℕ → List Cursor → Type 0
 HoldAll bytes a = Hold bytes (a .docids) (a .bodies) (a .lasts) (a .masks) (a .follows)
 
 -- a word was taken: its lists' cursors are after those that were there
-pub record WordTaken (nodes : List Node) (columns : ℕ) (word bytes ends : List ℕ) (a : Arrays) (left : List (List Term)) (cs : List Cursor) (r : Opening) : Type 0 where
-  pub fronts-are : FrontsAre nodes columns bytes ends (r .fronts) (allPopped nodes word left)
+pub record WordTaken (nodes : List Node) (columns : ℕ) (word bytes ends order : List ℕ) (a : Arrays) (left : List (List Term)) (cs : List Cursor) (r : Opening) : Type 0 where
+  pub fronts-are : FrontsAre nodes columns bytes ends order (r .fronts) (allPopped nodes word left)
   pub hold : HoldAll bytes a (r .n) (cs ++ groupCursors (maskOf nodes word) 0 (headLists word left))
 
 -- what is left of the leaves before a word was taken

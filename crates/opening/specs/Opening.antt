@@ -2,10 +2,11 @@
 -- group has its lists in all leaves that have the word, newest leaf first.
 use Prim.Native.Nat.{ℕ, _+_, _*_, _≤_, _<_}
 use mathlib.Core.Path.{_≡_}
-use mathlib.Core.List.{List, [], _∷_, _++_, map, List·Memᴰ}
+use mathlib.Core.List.{List, [], _∷_, _++_, map, List·Memᴰ, List·Permᴰ}
 use lib.ListN.{length, getD}
 use Rattle.common.specs.Pick.{pick}
 use Rattle.common.specs.Bytes.{same}
+use Rattle.directory.specs.Order.{upTo, inOrder}
 use Rattle.offsets.specs.Cut.{Cuts, cut}
 use Rattle.doclist.specs.Doclist.{Entry, encodeList}
 use Rattle.leaf.specs.Leaf.{Term, AreLeaves}
@@ -18,12 +19,13 @@ use Rattle.opening.specs.Matching.{maskOf, TextIs}
 
 -- ---- the leaves
 
--- the lent bytes are leaves with these terms, newest first
-pub record LeavesAre (columns : ℕ) (bytes ends : List ℕ) (leaves : List (List Term)) : Type 0 where
+-- the lent bytes are leaves, and gone through in this order they have these terms, newest first
+pub record LeavesAre (columns : ℕ) (bytes ends order : List ℕ) (leaves : List (List Term)) : Type 0 where
   pub cuts : Cuts bytes ends
-  pub few : length ends ≤ maxLeaves
+  pub few : length order ≤ maxLeaves
   pub small : length bytes ≤ maxIndexBytes
-  pub are : AreLeaves columns (cut bytes ends) leaves
+  pub each-once : List·Permᴰ (upTo (length ends)) order
+  pub are : AreLeaves columns (inOrder [] (cut bytes ends) order) leaves
 
 -- ---- the groups
 
@@ -86,10 +88,11 @@ pub record Opened (nodes : List Node) (leaves : List (List Term)) (bytes docids 
 
 -- ---- whatever the leaves and the arrays hold
 
--- the leaves can be opened: they are cut, few and small, and each array is as long as the first
-pub record Openable (bytes ends : List ℕ) (a : Arrays) : Type 0 where
+-- the leaves can be opened: they are cut and small, few are gone through, and each array is as long as the first. A number
+-- that no leaf has is safe: nothing stands there
+pub record Openable (bytes ends order : List ℕ) (a : Arrays) : Type 0 where
   pub cuts : Cuts bytes ends
-  pub few : length ends ≤ maxLeaves
+  pub few : length order ≤ maxLeaves
   pub small : length bytes ≤ maxIndexBytes
   pub rooms : AsLong a
 
@@ -117,13 +120,13 @@ pub record OpenFrame (bytes : List ℕ) (before after : Arrays) (n : ℕ) : Type
 
 -- ---- both: what opening the lists of a query's words answers and leaves
 
-pub record Opens (text stops marks : List ℕ) (count : ℕ) (bytes ends : List ℕ) (before after : Arrays) (n : ℕ) : Type 0 where
+pub record Opens (text stops marks : List ℕ) (count : ℕ) (bytes ends order : List ℕ) (before after : Arrays) (n : ℕ) : Type 0 where
   -- where the words are those of a query, the bytes are leaves, and there is a place for every word that they can have
   pub content : (nodes : List Node) (columns : ℕ) (leaves : List (List Term))
       → TextIs text stops marks count nodes
-      → LeavesAre columns bytes ends leaves
+      → LeavesAre columns bytes ends order leaves
       → length bytes < wordSize * (length (before .docids) + 1)
       → AsLong before
       → Opened nodes leaves bytes (after .docids) (after .bodies) (after .lasts) (after .masks) (after .follows) n
-  pub otherwise : (Openable bytes ends before → ⊥) → NotOpened before after n
+  pub otherwise : (Openable bytes ends order before → ⊥) → NotOpened before after n
   pub frame : OpenFrame bytes before after n

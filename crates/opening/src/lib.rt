@@ -1,6 +1,6 @@
 // The start of a search: one pass over all leaves makes a cursor for each index word that some word of the query matches,
 // in each leaf that has it. The leaves' words rise, so the pass goes by words: of the leaves' next words that match, the
-// least is taken, from all leaves that have it, newest first.
+// least is taken, from all leaves that have it. The leaves are gone through by `order`, their numbers, newest first.
 use leaf::Head;
 use varint::Varint;
 ghost use mathlib.Core.Path.{_≡_};
@@ -8,10 +8,11 @@ ghost use mathlib.Core.Logic.{_↔_};
 ghost use mathlib.Core.Bool.{true};
 ghost use mathlib.Core.List.{List, [], _++_};
 ghost use Prim.Native.Nat.{ℕ, _+_, _*_, _^_, _≤_, _<_};
-ghost use lib.ListN.{length, drop, set};
+ghost use lib.ListN.{length, drop};
 ghost use lib.Dec.{ltb};
 ghost use Rattle.common.specs.Pick.{pick};
 ghost use Rattle.common.specs.Bounds.{maxIndexBytes, maxLeaves};
+ghost use Rattle.directory.specs.Order.{inOrder};
 ghost use Rattle.offsets.specs.Cut.{Cuts, cut, startOf};
 ghost use Rattle.doclist.specs.Doclist.{Entry, WellFormed, encodeList};
 ghost use Rattle.leaf.specs.Leaf.{Term, AreLeaves};
@@ -51,7 +52,7 @@ struct Front {
     next: usize,
 }
 
-// How far the pass is: the fronts of the leaves, and how many cursors there are.
+// How far the pass is: the fronts of the leaves, newest first, and how many cursors there are.
 struct Opening {
     fronts: [Front; 8],
     n: usize,
@@ -307,18 +308,20 @@ fn push(
     follows[n] = follow;
 }
 
-// Where a leaf begins.
-fn leaf_start(ends: &[u32], j: usize) -> usize
-    requires { ⌜ j < length (now ends) ⌝ }
-    ensures { λ r. ⌜ r ≡ startOf (now (ends .entry)) j ⌝ }
+// Where the leaf number `i` begins. After the last one it is where all end, and 0 for any number after that.
+fn leaf_start(ends: &[u32], i: usize) -> usize
+    ensures { λ r. ⌜ r ≡ startOf (now (ends .entry)) i ⌝ }
 {
-    if j == 0 {
+    if i == 0 {
         return 0;
     }
-    ends[j - 1] as usize
+    if ends.len() < i {
+        return 0;
+    }
+    ends[i - 1] as usize
 }
 
-// The fronts of all leaves, before a word is taken.
+// The fronts of all leaves, newest first, before a word is taken.
 fn fronts_of(
     text: &[u8],
     stops: &[u16],
@@ -326,16 +329,18 @@ fn fronts_of(
     count: usize,
     leaves: &[u8],
     ends: &[u32],
+    order: &[u8],
 ) -> [Front; 8]
-    requires { ⌜ Cuts (now leaves) (now ends) × (length (now ends) ≤ 8) × (length (now leaves) ≤ 65536) ⌝ }
-    ensures { λ r. ⌜ ((j : ℕ) → j < length (now (ends .entry)) → Placed (length (now (leaves .entry))) (frontAt r j)) × ((nodes : List Node) (columns : ℕ) (terms : List (List Term)) → TextIs (now (text .entry)) (now (stops .entry)) (now (marks .entry)) count nodes → AreLeaves columns (cut (now (leaves .entry)) (now (ends .entry))) terms → FrontsAre nodes columns (now (leaves .entry)) (now (ends .entry)) r (allSkipped nodes terms)) ⌝ }
+    requires { ⌜ Cuts (now leaves) (now ends) × (length (now order) ≤ 8) × (length (now leaves) ≤ 65536) ⌝ }
+    ensures { λ r. ⌜ ((j : ℕ) → j < length (now (order .entry)) → Placed (length (now (leaves .entry))) (frontAt r j)) × ((nodes : List Node) (columns : ℕ) (terms : List (List Term)) → TextIs (now (text .entry)) (now (stops .entry)) (now (marks .entry)) count nodes → AreLeaves columns (inOrder [] (cut (now (leaves .entry)) (now (ends .entry))) (now (order .entry))) terms → FrontsAre nodes columns (now (leaves .entry)) (now (ends .entry)) (now (order .entry)) r (allSkipped nodes terms)) ⌝ }
 {
     let none = no_front();
     let mut fronts = [none; 8];
     let mut j: usize = 0;
-    while j < ends.len() {
-        let leaf = offsets::part(leaves, ends, j);
-        fronts[j] = seek(text, stops, marks, count, leaf, leaf_start(ends, j), none);
+    while j < order.len() {
+        let i = order[j] as usize;
+        let leaf = offsets::part(leaves, ends, i);
+        fronts[j] = seek(text, stops, marks, count, leaf, leaf_start(ends, i), none);
         j += 1;
     }
     fronts
@@ -350,6 +355,7 @@ fn take_word(
     count: usize,
     leaves: &[u8],
     ends: &[u32],
+    order: &[u8],
     given: [Front; 8],
     front: Front,
     docids: &mut [u64],
@@ -359,16 +365,16 @@ fn take_word(
     follows: &mut [u8],
     from: usize,
 ) -> Opening
-    requires { ⌜ Able (now leaves) (now ends) given (arrays (now docids) (now bodies) (now lasts) (now masks) (now follows)) from × (front .size ≤ 64) ⌝ }
-    ensures able { λ r. ⌜ Able (now (leaves .entry)) (now (ends .entry)) (r .fronts) (arrays (now (docids .entry)) (now (bodies .entry)) (now (lasts .entry)) (now (masks .entry)) (now (follows .entry))) (r .n) × (from ≤ r .n) ⌝ }
-    ensures content { λ r. ⌜ ((nodes : List Node) (columns : ℕ) (left : List (List Term)) (cs : List Cursor) → TextIs (now (text .entry)) (now (stops .entry)) (now (marks .entry)) count nodes → FrontsAre nodes columns (now (leaves .entry)) (now (ends .entry)) given left → HoldAll (now (leaves .entry)) (arrays (now (docids .entry)) (now (bodies .entry)) (now (lasts .entry)) (now (masks .entry)) (now (follows .entry))) from cs → from + length (headLists (frontWord front) left) ≤ length (now (docids .entry)) → WordTaken nodes columns (frontWord front) (now (leaves .entry)) (now (ends .entry)) (arrays (now (docids .exit)) (now (bodies .exit)) (now (lasts .exit)) (now (masks .exit)) (now (follows .exit))) left cs r) ⌝ }
+    requires { ⌜ Able (now leaves) (now ends) (now order) given (arrays (now docids) (now bodies) (now lasts) (now masks) (now follows)) from × (front .size ≤ 64) ⌝ }
+    ensures able { λ r. ⌜ Able (now (leaves .entry)) (now (ends .entry)) (now (order .entry)) (r .fronts) (arrays (now (docids .entry)) (now (bodies .entry)) (now (lasts .entry)) (now (masks .entry)) (now (follows .entry))) (r .n) × (from ≤ r .n) ⌝ }
+    ensures content { λ r. ⌜ ((nodes : List Node) (columns : ℕ) (left : List (List Term)) (cs : List Cursor) → TextIs (now (text .entry)) (now (stops .entry)) (now (marks .entry)) count nodes → FrontsAre nodes columns (now (leaves .entry)) (now (ends .entry)) (now (order .entry)) given left → HoldAll (now (leaves .entry)) (arrays (now (docids .entry)) (now (bodies .entry)) (now (lasts .entry)) (now (masks .entry)) (now (follows .entry))) from cs → from + length (headLists (frontWord front) left) ≤ length (now (docids .entry)) → WordTaken nodes columns (frontWord front) (now (leaves .entry)) (now (ends .entry)) (now (order .entry)) (arrays (now (docids .exit)) (now (bodies .exit)) (now (lasts .exit)) (now (masks .exit)) (now (follows .exit))) left cs r) ⌝ }
     ensures frame { λ r. ⌜ ((first : Arrays) → length (first .docids) ≡ length (now (docids .entry)) → OpenFrame (now (leaves .entry)) first (arrays (now (docids .entry)) (now (bodies .entry)) (now (lasts .entry)) (now (masks .entry)) (now (follows .entry))) from → OpenFrame (now (leaves .entry)) first (arrays (now (docids .exit)) (now (bodies .exit)) (now (lasts .exit)) (now (masks .exit)) (now (follows .exit))) (r .n)) ⌝ }
 {
     let mut fronts = given;
     let mut n = from;
     let mut follow = LEADS;
     let mut j: usize = 0;
-    while j < ends.len() {
+    while j < order.len() {
         let other = fronts[j];
         if !has_word(other, front) {
             j += 1;
@@ -378,8 +384,9 @@ fn take_word(
             return Opening { fronts, n };
         }
         push(other, follow, docids, bodies, lasts, masks, follows, n);
-        let leaf = offsets::part(leaves, ends, j);
-        fronts[j] = seek(text, stops, marks, count, leaf, leaf_start(ends, j), other);
+        let i = order[j] as usize;
+        let leaf = offsets::part(leaves, ends, i);
+        fronts[j] = seek(text, stops, marks, count, leaf, leaf_start(ends, i), other);
         follow = FOLLOWS;
         n += 1;
         j += 1;
@@ -387,12 +394,21 @@ fn take_word(
     Opening { fronts, n }
 }
 
-// Whether the leaves can be opened: they are cut, at most 8 of them with at most 65,536 bytes; and whether the arrays are
-// as long as the first.
-fn is_able(leaves: &[u8], ends: &[u32], a: usize, b: usize, c: usize, d: usize, e: usize) -> bool
-    ensures { λ r. ⌜ ((r ≡ true) ↔ (Cuts (now (leaves .entry)) (now (ends .entry)) × (length (now (ends .entry)) ≤ maxLeaves) × (length (now (leaves .entry)) ≤ maxIndexBytes) × (a ≤ b) × (a ≤ c) × (a ≤ d) × (a ≤ e))) ⌝ }
+// Whether the leaves can be opened: they are cut, have at most 65,536 bytes, and at most 8 are gone through; and whether the
+// arrays are as long as the first.
+fn is_able(
+    leaves: &[u8],
+    ends: &[u32],
+    order: &[u8],
+    a: usize,
+    b: usize,
+    c: usize,
+    d: usize,
+    e: usize,
+) -> bool
+    ensures { λ r. ⌜ ((r ≡ true) ↔ (Cuts (now (leaves .entry)) (now (ends .entry)) × (length (now (order .entry)) ≤ maxLeaves) × (length (now (leaves .entry)) ≤ maxIndexBytes) × (a ≤ b) × (a ≤ c) × (a ≤ d) × (a ≤ e))) ⌝ }
 {
-    if common::MAX_LEAVES < ends.len() {
+    if common::MAX_LEAVES < order.len() {
         return false;
     }
     if common::MAX_INDEX_BYTES < leaves.len() {
@@ -414,8 +430,9 @@ fn is_able(leaves: &[u8], ends: &[u32], a: usize, b: usize, c: usize, d: usize, 
 }
 
 // Makes the cursors of a search, and answers how many: for each index word that some word of the query matches, one in
-// each leaf that has it, newest first. The words of the query are `count` parts of `text`, which end at `stops`. A word takes at least 6 bytes of a leaf, so there are few enough for the arrays if
-// these have a place for every 6 bytes.
+// each leaf that has it, newest first. The leaves come in any order; `order` has their numbers, newest first. The words of
+// the query are `count` parts of `text`, which end at `stops`. A word takes at least 6 bytes of a leaf, so there are few
+// enough for the arrays if these have a place for every 6 bytes.
 pub fn open(
     text: &[u8],
     stops: &[u16],
@@ -423,17 +440,19 @@ pub fn open(
     count: usize,
     leaves: &[u8],
     ends: &[u32],
+    order: &[u8],
     docids: &mut [u64],
     bodies: &mut [u16],
     lasts: &mut [u16],
     masks: &mut [u16],
     follows: &mut [u8],
 ) -> usize
-    ensures { λ n. ⌜ Opens (now (text .entry)) (now (stops .entry)) (now (marks .entry)) count (now (leaves .entry)) (now (ends .entry)) (arrays (now (docids .entry)) (now (bodies .entry)) (now (lasts .entry)) (now (masks .entry)) (now (follows .entry))) (arrays (now (docids .exit)) (now (bodies .exit)) (now (lasts .exit)) (now (masks .exit)) (now (follows .exit))) n ⌝ }
+    ensures { λ n. ⌜ Opens (now (text .entry)) (now (stops .entry)) (now (marks .entry)) count (now (leaves .entry)) (now (ends .entry)) (now (order .entry)) (arrays (now (docids .entry)) (now (bodies .entry)) (now (lasts .entry)) (now (masks .entry)) (now (follows .entry))) (arrays (now (docids .exit)) (now (bodies .exit)) (now (lasts .exit)) (now (masks .exit)) (now (follows .exit))) n ⌝ }
 {
     if !is_able(
         leaves,
         ends,
+        order,
         docids.len(),
         bodies.len(),
         lasts.len(),
@@ -442,11 +461,11 @@ pub fn open(
     ) {
         return NO_CURSORS;
     }
-    let mut fronts = fronts_of(text, stops, marks, count, leaves, ends);
+    let mut fronts = fronts_of(text, stops, marks, count, leaves, ends, order);
     let mut n: usize = 0;
     loop {
-        let best = least(fronts, ends.len());
-        if ends.len() <= best {
+        let best = least(fronts, order.len());
+        if order.len() <= best {
             return n;
         }
         let front = fronts[best];
@@ -457,6 +476,7 @@ pub fn open(
             count,
             leaves,
             ends,
+            order,
             fronts,
             front,
             docids,

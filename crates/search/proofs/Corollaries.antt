@@ -6,10 +6,10 @@ use native.Mathlib.Omega.{arith}
 use mathlib.Core.Path.{_≡_, refl, sym, ap, _∙_, subst}
 use mathlib.Core.Logic.{_↔_, _⊎_, inl, inr, ⊎-elim}
 use mathlib.Core.List.{List, [], _∷_, _++_, map, List·Memᴰ, List·Memᴰ·not-nil, Memᴰ·map, Memᴰ·of-map}
+use mathlib.Core.Bool.{true}
 use lib.IntN.{ℤ}
 use lib.ListN.{length, getD, take, length-map}
 use lib.Seq.{take-at}
-use mathlib.Core.Bool.{true}
 use lib.Signed.{ltZ}
 use borrow.Author.Tests.{lt-ltb}
 use Rattle.common.specs.Refusals.{Numbers, numbers, Refusal, FirstDue, roomRefusal}
@@ -33,10 +33,11 @@ use Rattle.meaning.specs.Listing.{Answers, roomWith, zeros}
 use Rattle.meaning.proofs.Lists.{lists-unique}
 use Rattle.meaning.proofs.Some.{holds-some}
 use Rattle.meaning.proofs.Distances.{answers-with-same}
-use Rattle.search.specs.Search.{numbersOf, Input, columnNames, columnCount, leafBytes, ShapeRight, IsQuery, Searchable, refusals, roomFor, SearchedWith, Searched}
+use Rattle.search.specs.Search.{numbersOf, Input, columnNames, columnCount, leafBytes, leafPairs, ShapeRight, IsQuery, IndexIs, Searchable, refusals, roomFor, SearchedWith, Searched}
 use Rattle.search.specs.Checking.{SoundLeaves}
 use Rattle.search.specs.declared.Answer.{Answer}
 use Rattle.search.specs.declared.Answer.the-variants as answer
+use Rattle.search.proofs.Indexes.{newest-none}
 use Rattle.search.proofs.Order.{numbers-once, refusals-exclusive, first-broken, broken-first, searchable, last-due, behind-shape, behind-query, other-need}
 
 -- ---- the leaves that break a rule
@@ -121,7 +122,7 @@ refused-zeros n docids (answer.Room k) z = refl
 abbrev pub Answered : Answer → Type 0
 Answered r = (numbersOf r .number ≡ 0) ⊎ (numbersOf r .number ≡ 4)
 
-passed-or-not : (r : Answer) → Answered r ⊎ (((numbersOf r .number ≡ 0) → ⊥) × ((numbersOf r .number ≡ 4) → ⊥))
+pub passed-or-not : (r : Answer) → Answered r ⊎ (((numbersOf r .number ≡ 0) → ⊥) × ((numbersOf r .number ≡ 4) → ⊥))
 passed-or-not (answer.Found n) = inl (inl refl)
 passed-or-not answer.Shape = inr (λ z. omega arith, λ z. omega arith)
 passed-or-not answer.Query = inr (λ z. omega arith, λ z. omega arith)
@@ -147,7 +148,7 @@ answer-unique x n r q room left s t =
     once : Searchable x → s .docids ≡ t .docids
     once a =
         lists-unique _ (s .docids) (t .docids)
-        (s .listed (a .tree) (a .index) (a .shape) (a .is-query) (a .are-leaves)) (t .listed (a .tree) (a .index) (a .shape) (a .is-query) (a .are-leaves))
+        (s .listed (a .tree) (a .index) (a .shape) (a .is-query) (a .is-index)) (t .listed (a .tree) (a .index) (a .shape) (a .is-query) (a .is-index))
 
     same-answer : FirstDue (refusals x n (length (t .docids))) (numbers 0 (length (t .docids))) (numbersOf r) → r ≡ q
     same-answer d =
@@ -172,8 +173,8 @@ pub written-same : (b c : ℕ) (x : Input) (n : ℕ) (r : Answer) (room : List �
 written-same b c x n r room tree q w s =
     record {
       docids = s .docids;
-      listed = λ t leaves shape query are.
-          answers-with-same b c leaves t (s .docids) (subst WrittenTree (reads-unique (columnNames x) (x .query) tree t q query) w) (s .listed t leaves shape query are);
+      listed = λ t index shape query is.
+          answers-with-same b c index t (s .docids) (subst WrittenTree (reads-unique (columnNames x) (x .query) tree t q query) w) (s .listed t index shape query is);
       answered = s .answered;
       left = s .left;
     }
@@ -186,10 +187,10 @@ same-as-before x n r q room left tree h w s t = answer-unique x n r q room left 
 -- ---- the search
 
 module _ (x : Input) (n : ℕ) (r : Answer) (room : List ℤ) (s : Searched x n r room) where
-  -- its shape is right, the query is this tree, and the leaves have these terms, newest first
-  module _ (tree : Tree) (index : List (List Term)) (shape : ShapeRight x) (query : IsQuery x tree) (leaves : AreLeaves (columnCount x) (leafBytes x) index) where
+  -- its shape is right, the query is this tree, and the leaves make up this index
+  module _ (tree : Tree) (index : List (List Term)) (shape : ShapeRight x) (query : IsQuery x tree) (is : IndexIs x index) where
     list : Answers index tree (s .docids)
-    list = s .listed tree index shape query leaves
+    list = s .listed tree index shape query is
 
     -- listed ⇔ satisfies
     pub listed-satisfies : (d : ℕ) → d < docidLimit → List·Memᴰ d (s .docids) ↔ Satisfies (live index) d tree
@@ -204,7 +205,7 @@ module _ (x : Input) (n : ℕ) (r : Answer) (room : List ℤ) (s : Searched x n 
     listed-signed i j h l = same-order (getD (s .docids) i 0) (getD (s .docids) j 0) ∙ lt-ltb _ _ (listed-rising i j h l)
 
     decides : FirstDue (roomRefusal n (length (s .docids)) ∷ []) (numbers 0 (length (s .docids))) (numbersOf r)
-    decides = last-due x n (length (s .docids)) (numbersOf r) shape tree query index leaves (s .answered)
+    decides = last-due x n (length (s .docids)) (numbersOf r) shape tree query index is (s .answered)
 
     -- with room for the answers it is accepted: the count is the list's length, and the room holds the list and zeros
     pub count-is-length : length (s .docids) ≤ n → (r ≡ answer.Found (length (s .docids))) × (room ≡ roomWith n (s .docids))
@@ -231,7 +232,7 @@ module _ (x : Input) (n : ℕ) (r : Answer) (room : List ℤ) (s : Searched x n 
   pub no-leaves : (tree : Tree) → ShapeRight x → IsQuery x tree → length (x .leaf-ends) ≡ 0 → (s .docids ≡ []) × (r ≡ answer.Found 0) × (room ≡ zeros n)
   no-leaves tree shape query z =
       let b : leafBytes x ≡ [] = empty (leafBytes x) (length-cut (x .leaves) (x .leaf-ends) ∙ z) in
-      let l : AreLeaves (columnCount x) (leafBytes x) [] = subst (λ bs. AreLeaves (columnCount x) bs []) (sym b) tt in
+      let l : IndexIs x [] = record { contents = []; are-leaves = subst (λ bs. AreLeaves (columnCount x) bs []) (sym b) tt; newest-first = newest-none (leafPairs x) } in
       let list = s .listed tree [] shape query l in
       let e : s .docids ≡ [] =
       no-member (s .docids) (λ d m.
@@ -262,13 +263,13 @@ module _ (x : Input) (n : ℕ) (r : Answer) (room : List ℤ) (s : Searched x n 
       (e, s .left ∙ ap (roomFor n (s .docids)) e)
 
   -- a row that satisfies the right side of a NOT is not in the list
-  pub not-right-side : (left right : Tree) (index : List (List Term)) → ShapeRight x → IsQuery x (joined NOT left right) → AreLeaves (columnCount x) (leafBytes x) index
+  pub not-right-side : (left right : Tree) (index : List (List Term)) → ShapeRight x → IsQuery x (joined NOT left right) → IndexIs x index
       → (d : ℕ) → d < docidLimit → Satisfies (live index) d right → List·Memᴰ d (s .docids) → ⊥
-  not-right-side left right index shape query leaves d h t m = listed-satisfies (joined NOT left right) index shape query leaves d h .0 m .1 t
+  not-right-side left right index shape query is d h t m = listed-satisfies (joined NOT left right) index shape query is d h .0 m .1 t
 
   -- ---- what each number says
 
-  -- answer 0 or 4 ⇔ the shape is right, the query is a tree, and the leaves have terms
+  -- answer 0 or 4 ⇔ the shape is right, the query is a tree, and the leaves make up an index
   pub searchable-exactly : Answered r ↔ Searchable x
   searchable-exactly = (
     λ p. passed-searchable x n r room s p .0,
@@ -276,12 +277,12 @@ module _ (x : Input) (n : ℕ) (r : Answer) (room : List ℤ) (s : Searched x n 
         ⊎-elim
         (λ h. inr (ap (λ (m : Numbers). m .number) (h .1)))
         (λ h. inl (ap (λ (m : Numbers). m .number) (h .1)))
-        (decides (a .tree) (a .index) (a .shape) (a .is-query) (a .are-leaves)),
+        (decides (a .tree) (a .index) (a .shape) (a .is-query) (a .is-index)),
   )
 
   -- the list of a search that passes the checks
   same-list : (a : Searchable x) (docids : List ℕ) → Answers (a .index) (a .tree) docids → docids ≡ s .docids
-  same-list a docids h = lists-unique _ docids (s .docids) h (s .listed (a .tree) (a .index) (a .shape) (a .is-query) (a .are-leaves))
+  same-list a docids h = lists-unique _ docids (s .docids) h (s .listed (a .tree) (a .index) (a .shape) (a .is-query) (a .is-index))
 
   -- answer 0 ⇔ so, and the list of all docids that satisfy the query is no longer than the room
   pub accepted-exactly : (numbersOf r .number ≡ 0) ↔ ((a : Searchable x) × (docids : List ℕ) × Answers (a .index) (a .tree) docids × (length docids ≤ n))
@@ -293,7 +294,7 @@ module _ (x : Input) (n : ℕ) (r : Answer) (room : List ℤ) (s : Searched x n 
           let a = w .0 in (
             a,
             s .docids,
-            s .listed (a .tree) (a .index) (a .shape) (a .is-query) (a .are-leaves),
+            s .listed (a .tree) (a .index) (a .shape) (a .is-query) (a .is-index),
             ⊎-elim (λ h. let e = ap (λ (m : Numbers). m .number) (h .1) in absurd (omega arith)) (λ h. h .0) (w .1),
           )
 
@@ -301,7 +302,7 @@ module _ (x : Input) (n : ℕ) (r : Answer) (room : List ℤ) (s : Searched x n 
       back h =
           let a = h .0 in
           let l = subst (λ (ds : List ℕ). length ds ≤ n) (same-list a (h .1) (h .2)) (h .3) in
-          ap (λ (q : Answer). numbersOf q .number) (count-is-length (a .tree) (a .index) (a .shape) (a .is-query) (a .are-leaves) l .0)
+          ap (λ (q : Answer). numbersOf q .number) (count-is-length (a .tree) (a .index) (a .shape) (a .is-query) (a .is-index) l .0)
 
   -- answer 4 ⇔ it is longer
   pub no-room-exactly : (numbersOf r .number ≡ 4) ↔ ((a : Searchable x) × (docids : List ℕ) × Answers (a .index) (a .tree) docids × (n < length docids))
@@ -313,7 +314,7 @@ module _ (x : Input) (n : ℕ) (r : Answer) (room : List ℤ) (s : Searched x n 
           let a = w .0 in (
             a,
             s .docids,
-            s .listed (a .tree) (a .index) (a .shape) (a .is-query) (a .are-leaves),
+            s .listed (a .tree) (a .index) (a .shape) (a .is-query) (a .is-index),
             ⊎-elim (λ h. h .0) (λ h. let e = ap (λ (m : Numbers). m .number) (h .1) in absurd (omega arith)) (w .1),
           )
 
@@ -321,7 +322,7 @@ module _ (x : Input) (n : ℕ) (r : Answer) (room : List ℤ) (s : Searched x n 
       back h =
           let a = h .0 in
           let l = subst (λ (ds : List ℕ). n < length ds) (same-list a (h .1) (h .2)) (h .3) in
-          ap (λ (q : Answer). numbersOf q .number) (need-is-length (a .tree) (a .index) (a .shape) (a .is-query) (a .are-leaves) l .0)
+          ap (λ (q : Answer). numbersOf q .number) (need-is-length (a .tree) (a .index) (a .shape) (a .is-query) (a .is-index) l .0)
 
   -- answer 1 ⇔ the shape is broken
   pub shape-exactly : (numbersOf r .number ≡ 1) ↔ (ShapeRight x → ⊥)

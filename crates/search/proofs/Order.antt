@@ -13,9 +13,10 @@ use Rattle.leaf.specs.Leaf.{Term, IsLeaf, NoLeaf, AreLeaves}
 use Rattle.leaf.specs.Answers.{leafRefusals}
 use Rattle.leaf.proofs.Checks.{leaves-exclusive}
 use Rattle.query.specs.Tree.{Tree}
-use Rattle.search.specs.Search.{numbersOf, Input, columnCount, leafBytes, ShapeRight, IsQuery, Searchable, queryRefusal, refusals}
+use Rattle.search.specs.Search.{numbersOf, Input, columnCount, leafBytes, ShapeRight, IsQuery, IndexIs, Searchable, queryRefusal, refusals}
 use Rattle.search.specs.declared.Answer.{Answer}
 use Rattle.search.specs.declared.Answer.the-variants as answer
+use Rattle.search.proofs.Indexes.{index-some}
 
 -- ---- the numbers
 
@@ -106,17 +107,20 @@ searchable x n need m a b c d =
     (λ g. absurd (b (ap (λ (q : Numbers). q .number) (g .1))))
     (λ g.
     let w = behind-leaves (columnCount x) (roomRefusal n need ∷ []) (numbers 0 need) 0 (leafBytes x) m c (g .1) in (
-      record { shape = h .0; tree = g .0 .0; is-query = g .0 .1; index = w .0 .0; are-leaves = w .0 .1 },
+      passed (h .0) (g .0 .0) (g .0 .1) (w .0 .0) (w .0 .1),
       w .1,
     ))
     (h .1))
     d
+  where
+    passed : ShapeRight x → (tree : Tree) → IsQuery x tree → (contents : List (List Term)) → AreLeaves (columnCount x) (leafBytes x) contents → Searchable x
+    passed s tree q contents l = let i = index-some x s contents l in record { shape = s; tree = tree; is-query = q; index = i .0; is-index = i .1 }
 
 -- where the checks are passed the room decides
-pub last-due : (x : Input) (n need : ℕ) (m : Numbers) → ShapeRight x → (tree : Tree) → IsQuery x tree → (index : List (List Term)) → AreLeaves (columnCount x) (leafBytes x) index
+pub last-due : (x : Input) (n need : ℕ) (m : Numbers) → ShapeRight x → (tree : Tree) → IsQuery x tree → (index : List (List Term)) → IndexIs x index
     → FirstDue (refusals x n need) (numbers 0 need) m → FirstDue (roomRefusal n need ∷ []) (numbers 0 need) m
-last-due x n need m shape tree query index leaves d =
-    all-keep 0 (leafBytes x) index leaves (passes (λ f. f tree query) (passes (λ f. f shape) d .1) .1)
+last-due x n need m shape tree query index is d =
+    all-keep 0 (leafBytes x) (is .contents) (is .are-leaves) (passes (λ f. f tree query) (passes (λ f. f shape) d .1) .1)
   where
     all-keep : (k : ℕ) (bs : List (List ℕ)) (index : List (List Term)) → AreLeaves (columnCount x) bs index
         → FirstDue (leafRefusals (columnCount x) k bs ++ roomRefusal n need ∷ []) (numbers 0 need) m → FirstDue (roomRefusal n need ∷ []) (numbers 0 need) m

@@ -4,13 +4,15 @@ use native.Mathlib.Omega.{arith}
 use mathlib.Core.Path.{_≡_, sym, ap, _∙_, subst}
 use mathlib.Core.Logic.{_↔_, inl, inr}
 use mathlib.Core.Bool.{Bool, true, false}
-use mathlib.Core.List.{List, [], _∷_, _++_}
+use mathlib.Core.List.{List, [], _∷_, _++_, List·Permᴰ}
 use lib.IntN.{ℤ}
 use lib.ListN.{length}
 use lib.Seq.{take-all}
 use Rattle.common.specs.Refusals.{numbers, FirstDue, roomRefusal}
 use Rattle.common.proofs.Cases.{false-not-true}
 use Rattle.offsets.proofs.Cuts.{length-cut}
+use Rattle.directory.specs.Order.{upTo, OrderIs}
+use Rattle.directory.proofs.Placing.{sorted-length}
 use Rattle.leaf.specs.Leaf.{Term, AreLeaves}
 use Rattle.leaf.specs.Answers.{leafRefusals}
 use Rattle.query.specs.Tree.{Tree}
@@ -20,10 +22,11 @@ use Rattle.query.proofs.Bounds.{reads-words, reads-filled}
 use Rattle.meaning.specs.Listing.{Answers, zeros}
 use Rattle.engine.specs.Run.{Ran}
 use Rattle.engine.proofs.Rooms.{fitted-all, length-fitted}
-use Rattle.search.specs.Search.{numbersOf, Input, columnNames, columnCount, leafBytes, ShapeRight, IsQuery, refusals, roomFor, Searched}
+use Rattle.search.specs.Search.{numbersOf, Input, columnNames, columnCount, leafBytes, leafPairs, ShapeRight, IsQuery, IndexIs, refusals, roomFor, Searched}
 use Rattle.search.specs.Checking.{SoundLeaves}
 use Rattle.search.specs.declared.Answer.{Answer}
 use Rattle.search.specs.declared.Answer.the-variants as answer
+use Rattle.search.proofs.Indexes.{pairs-count, index-ordered}
 use Rattle.search.proofs.Order.{leaf-at, none-broken, first-broken}
 
 -- the room was cleared for the answer `a`
@@ -37,7 +40,7 @@ module _ (x : Input) (n : ℕ) (r : Answer) (room : List ℤ) (good : Bool) (tes
       let h : ShapeRight x → ⊥ = λ s. false-not-true (sym e ∙ test .1 s) in
       record {
         docids = [];
-        listed = λ tree index s q l. absurd (h s);
+        listed = λ tree index s q is. absurd (h s);
         answered = inl (h, ap numbersOf (a .0));
         left = a .1 ∙ sym (ap (roomFor n []) (a .0));
       }
@@ -52,7 +55,7 @@ module _ (x : Input) (n : ℕ) (r : Answer) (room : List ℤ) (good : Bool) (tes
         let h : (tree : Tree) → IsQuery x tree → ⊥ = λ tree q. false-not-true (sym e ∙ compiles .accepted .1 (tree, q)) in
         record {
           docids = [];
-          listed = λ tree index s q l. absurd (h tree q);
+          listed = λ tree index s q is. absurd (h tree q);
           answered = inr (shape, inl (h, ap numbersOf (a .0)));
           left = a .1 ∙ sym (ap (roomFor n []) (a .0));
         }
@@ -70,23 +73,31 @@ module _ (x : Input) (n : ℕ) (r : Answer) (room : List ℤ) (good : Bool) (tes
           let d = first-broken (columnCount x) (roomRefusal n 0 ∷ []) (numbers 0 0) 0 i i (leafBytes x) (checked .index) (omega arith) (checked .sound) b (checked .broken b) in
           record {
             docids = [];
-            listed = λ tree index s q l. let k = leaf-at (columnCount x) (leafBytes x) index i l b in absurd (checked .broken b (k .0) (k .1));
+            listed = λ tree index s q is. let k = leaf-at (columnCount x) (leafBytes x) (is .contents) i (is .are-leaves) b in absurd (checked .broken b (k .0) (k .1));
             answered = behind-query 0 (subst (FirstDue (leafRefusals (columnCount x) 0 (leafBytes x) ++ roomRefusal n 0 ∷ []) (numbers 0 0)) (sym (ap numbersOf (a .0))) d);
             left = a .1 ∙ sym (ap (roomFor n []) (a .0));
           }
 
-      -- all leaves are sound, and the engine ran
-      module _ (all : length (x .leaf-ends) ≤ i) (found : ℕ) (before : List ℤ) (run : Ran (reading .query) (x .leaves) (x .leaf-ends) n found before) where
+      -- all leaves are sound, and the engine ran through them by age
+      module _ (all : length (x .leaf-ends) ≤ i) (order : List ℕ) (by-age : OrderIs (leafPairs x) order) (found : ℕ) (before : List ℤ)
+          (run : Ran (reading .query) (x .leaves) (x .leaf-ends) order n found before) where
         leaves : AreLeaves (columnCount x) (leafBytes x) (checked .index)
         leaves =
             let l = length-cut (x .leaves) (x .leaf-ends) in
             subst (λ bs. AreLeaves (columnCount x) bs (checked .index)) (take-all i (leafBytes x) (omega arith)) (checked .sound)
 
-        every : (tree : Tree) (index : List (List Term)) → ShapeRight x → IsQuery x tree → AreLeaves (columnCount x) (leafBytes x) index → Answers index tree (run .docids)
-        every tree index s q l =
+        every : (tree : Tree) (index : List (List Term)) → ShapeRight x → IsQuery x tree → IndexIs x index → Answers index tree (run .docids)
+        every tree index s q is =
+            let c = sorted-length by-age ∙ pairs-count x s in
             run .listed (length (x .name-ends)) tree index
             (record { fit = record { filled = reads-filled q; few = reads-words q }; same = ap (λ (m : Reading). m .query) (compiles .content tree q) })
-            (record { cuts = s .leaf-cuts; few = s .few-leaves; small = s .few-bytes; are = l })
+            (record {
+              cuts = s .leaf-cuts;
+              few = omega (arith, s .few-leaves);
+              small = s .few-bytes;
+              each-once = subst (λ k. List·Permᴰ (upTo k) order) (pairs-count x s) (by-age .each-once);
+              are = index-ordered x s order by-age index is;
+            })
 
         behind-leaves : FirstDue (roomRefusal n (length (run .docids)) ∷ []) (numbers 0 (length (run .docids))) (numbersOf r)
             → FirstDue (refusals x n (length (run .docids))) (numbers 0 (length (run .docids))) (numbersOf r)

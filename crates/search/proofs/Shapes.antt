@@ -5,13 +5,13 @@ use mathlib.Core.Path.{_≡_, sym, _∙_}
 use mathlib.Core.Logic.{_↔_}
 use mathlib.Core.Bool.{Bool, true, false}
 use lib.ListN.{length}
-use lib.Dec.{leb}
-use borrow.Author.Tests.{leb-true, le-leb}
 use Rattle.common.proofs.Cases.{false-not-true}
-use Rattle.common.specs.Bounds.{maxColumns, maxLeaves, maxIndexBytes}
+use Rattle.common.specs.Bounds.{maxColumns, maxIndexBytes}
 use Rattle.offsets.specs.Cut.{Cuts}
 use Rattle.offsets.specs.Names.{Names}
 use Rattle.offsets.proofs.Cuts.{length-cut}
+use Rattle.directory.specs.Order.{Ordered}
+use Rattle.directory.specs.declared.Order.{Order}
 use Rattle.search.specs.Search.{Input, columnNames, ShapeRight}
 
 module _ (x : Input) where
@@ -21,14 +21,15 @@ module _ (x : Input) where
   pub leaves-wrong : (r : Bool) → (r ≡ true) ↔ Cuts (x .leaves) (x .leaf-ends) → r ≡ false → (false ≡ true) ↔ ShapeRight x
   leaves-wrong r c e = (false-not-true, λ s. sym e ∙ c .1 (s .leaf-cuts))
 
-  pub many-leaves : maxLeaves < length (x .leaf-ends) → (false ≡ true) ↔ ShapeRight x
-  many-leaves h = (false-not-true, λ s. absurd (omega (arith, s .few-leaves)))
+  pub many-bytes : maxIndexBytes < length (x .leaves) → (false ≡ true) ↔ ShapeRight x
+  many-bytes h = (false-not-true, λ s. absurd (omega (arith, s .few-bytes)))
 
-  pub shape-told : Cuts (x .names) (x .name-ends) × Names (columnNames x) → Cuts (x .leaves) (x .leaf-ends) → length (x .leaf-ends) ≤ maxLeaves
-      → (leb (length (x .leaves)) maxIndexBytes ≡ true) ↔ ShapeRight x
-  shape-told n c h = (
-    λ e. record { name-cuts = n .0; good-names = n .1; leaf-cuts = c; few-leaves = h; few-bytes = leb-true (length (x .leaves)) maxIndexBytes e },
-    λ s. le-leb (length (x .leaves)) maxIndexBytes (s .few-bytes),
+  -- all but the pairs was tested
+  pub shape-told : Cuts (x .names) (x .name-ends) × Names (columnNames x) → Cuts (x .leaves) (x .leaf-ends) → length (x .leaves) ≤ maxIndexBytes
+      → (r : Order) → Ordered (x .levels) (x .indexes) (length (x .leaf-ends)) r → (r .ok ≡ true) ↔ ShapeRight x
+  shape-told n c h r o = (
+    λ e. let d = o .exact .0 e in record { name-cuts = n .0; good-names = n .1; leaf-cuts = c; few-leaves = d .0; few-bytes = h; dated = d .1 },
+    λ s. o .exact .1 (s .few-leaves, s .dated),
   )
 
   -- what a right shape says of the numbers of columns and bytes

@@ -1,4 +1,4 @@
--- How many leaves keep every rule, from the newest on, up to the first that breaks one.
+-- How many leaves keep every rule, in the order lent, up to the first that breaks one.
 use Prim.Native.Nat.{ℕ, _≤_, _<_}
 use mathlib.Core.List.{List, []}
 use lib.ListN.{length, getD, take}

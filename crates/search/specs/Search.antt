@@ -10,6 +10,7 @@ use Rattle.common.specs.Refusals.{Numbers, numbers, Refusal, FirstDue, shapeRef
 use Rattle.common.specs.Bounds.{maxLeaves, maxIndexBytes}
 use Rattle.offsets.specs.Cut.{Cuts, cut}
 use Rattle.offsets.specs.Names.{Names}
+use Rattle.directory.specs.Age.{Pair, pairs, Dated, NewestFirst}
 use Rattle.leaf.specs.Leaf.{Term, AreLeaves}
 use Rattle.leaf.specs.Answers.{leafRefusals}
 use Rattle.query.specs.Tree.{Tree}
@@ -35,6 +36,8 @@ pub record Input : Type 0 where
   pub name-ends : List ℕ
   pub leaves : List ℕ
   pub leaf-ends : List ℕ
+  pub levels : List ℕ
+  pub indexes : List ℕ
   pub query : List ℕ
 
 abbrev pub columnNames : Input → List (List ℕ)
@@ -43,9 +46,13 @@ columnNames x = cut (x .names) (x .name-ends)
 abbrev pub columnCount : Input → ℕ
 columnCount x = length (x .name-ends)
 
--- the leaves, newest first
+-- the leaves, in the order lent
 abbrev pub leafBytes : Input → List (List ℕ)
 leafBytes x = cut (x .leaves) (x .leaf-ends)
+
+-- their levels and indexes
+abbrev pub leafPairs : Input → List Pair
+leafPairs x = pairs (x .levels) (x .indexes)
 
 -- "A search's shape is right when number 1 isn't due to it."
 pub record ShapeRight (x : Input) : Type 0 where
@@ -54,18 +61,25 @@ pub record ShapeRight (x : Input) : Type 0 where
   pub leaf-cuts : Cuts (x .leaves) (x .leaf-ends)
   pub few-leaves : length (x .leaf-ends) ≤ maxLeaves
   pub few-bytes : length (x .leaves) ≤ maxIndexBytes
+  pub dated : Dated (x .levels) (x .indexes) (length (x .leaf-ends))
 
 -- the query is in the language, and is this tree
 abbrev pub IsQuery : Input → Tree → Type 0
 IsQuery x tree = Reads (columnNames x) (x .query) tree
 
--- the checks 1, 2 and 3 are passed: the shape is right, the query is this tree, and the leaves have these terms
+-- the index that is lent: the terms of its leaves, newest first by their levels and indexes
+pub record IndexIs (x : Input) (index : List (List Term)) : Type 0 where
+  pub contents : List (List Term)
+  pub are-leaves : AreLeaves (columnCount x) (leafBytes x) contents
+  pub newest-first : NewestFirst (leafPairs x) contents index
+
+-- the checks 1, 2 and 3 are passed: the shape is right, the query is this tree, and the leaves make up this index
 pub record Searchable (x : Input) : Type 0 where
   pub shape : ShapeRight x
   pub tree : Tree
   pub is-query : IsQuery x tree
   pub index : List (List Term)
-  pub are-leaves : AreLeaves (columnCount x) (leafBytes x) index
+  pub is-index : IndexIs x index
 
 -- ---- the refusals in their order
 
@@ -90,9 +104,9 @@ roomFor n docids (answer.Room k) = zeros n
 
 -- a search in a room of `n` numbers gives the answer `r` and leaves `room`, where a NEAR without a number stands for `b`
 pub record SearchedWith (b : ℕ) (x : Input) (n : ℕ) (r : Answer) (room : List ℤ) : Type 0 where
-  -- the list: of all docids that satisfy the query, whenever it is one and the leaves are leaves
+  -- the list: of all docids that satisfy the query, whenever it is one and the leaves make up an index
   pub docids : List ℕ
-  pub listed : (tree : Tree) (leaves : List (List Term)) → ShapeRight x → IsQuery x tree → AreLeaves (columnCount x) (leafBytes x) leaves → AnswersWith b leaves tree docids
+  pub listed : (tree : Tree) (index : List (List Term)) → ShapeRight x → IsQuery x tree → IndexIs x index → AnswersWith b index tree docids
   pub answered : FirstDue (refusals x n (length docids)) (numbers 0 (length docids)) (numbersOf r)
   pub left : room ≡ roomFor n docids r
 

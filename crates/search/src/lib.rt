@@ -1,4 +1,5 @@
 // The search of document 01: all docids that satisfy a query over the leaves of an index.
+use directory::Order;
 use leaf::LeafCheck;
 ghost use mathlib.Core.Path.{_≡_};
 ghost use mathlib.Core.Logic.{_↔_};
@@ -8,6 +9,7 @@ ghost use Prim.Native.Nat.{ℕ, _≤_};
 ghost use lib.ListN.{length};
 ghost use Rattle.common.specs.Bounds.{maxColumns, maxIndexBytes};
 ghost use Rattle.offsets.specs.Cut.{cut};
+ghost use Rattle.directory.specs.Order.{Ordered};
 ghost use Rattle.leaf.specs.Leaf.{IsLeaf};
 ghost use Rattle.meaning.specs.Listing.{zeros};
 ghost use Rattle.search.specs.Search.{ShapeRight, Searched};
@@ -27,20 +29,32 @@ pub enum Answer {
     Room(usize),
 }
 
-// Whether number 1 is not due.
-fn has_shape(names: &[u8], name_ends: &[u32], leaves: &[u8], leaf_ends: &[u32]) -> bool
-    ensures { λ r. ⌜ ((query : List ℕ) → (r ≡ true) ↔ ShapeRight (record { names = now (names .entry); name-ends = now («name_ends» .entry); leaves = now (leaves .entry); leaf-ends = now («leaf_ends» .entry); query = query })) ⌝ }
+// The order of the leaves by age, which is refused where number 1 is due.
+fn order_of(
+    names: &[u8],
+    name_ends: &[u32],
+    leaves: &[u8],
+    leaf_ends: &[u32],
+    levels: &[u32],
+    indexes: &[u32],
+) -> Order
+    ensures shape { λ r. ⌜ ((query : List ℕ) → (r .ok ≡ true) ↔ ShapeRight (record { names = now (names .entry); name-ends = now («name_ends» .entry); leaves = now (leaves .entry); leaf-ends = now («leaf_ends» .entry); levels = now (levels .entry); indexes = now (indexes .entry); query = query })) ⌝ }
+    ensures order { λ r. ⌜ (r .ok ≡ true → Ordered (now (levels .entry)) (now (indexes .entry)) (length (now («leaf_ends» .entry))) r) ⌝ }
 {
+    let refused = Order {
+        ok: false,
+        places: [0u8; 8],
+    };
     if !offsets::are_names(names, name_ends) {
-        return false;
+        return refused;
     }
     if !offsets::is_cut(leaves, leaf_ends) {
-        return false;
+        return refused;
     }
-    if common::MAX_LEAVES < leaf_ends.len() {
-        return false;
+    if common::MAX_INDEX_BYTES < leaves.len() {
+        return refused;
     }
-    leaves.len() <= common::MAX_INDEX_BYTES
+    directory::newest_first(levels, indexes, leaf_ends.len())
 }
 
 // Whether a leaf keeps every rule.
@@ -55,7 +69,7 @@ fn is_leaf(leaf: &[u8], columns: u32) -> bool
     }
 }
 
-// How many leaves keep every rule, from the newest on, up to the first that breaks one.
+// How many leaves keep every rule, in the order lent, up to the first that breaks one.
 fn sound_leaves(leaves: &[u8], ends: &[u32], columns: u32) -> usize
     requires { ⌜ (1 ≤ columns) × (columns ≤ maxColumns) × (length (now leaves) ≤ maxIndexBytes) ⌝ }
     ensures { λ r. ⌜ SoundLeaves columns (cut (now (leaves .entry)) (now (ends .entry))) r ⌝ }
@@ -78,31 +92,36 @@ fn refused(room: &mut [i64], answer: Answer) -> Answer
     answer
 }
 
-// Lists all docids that satisfy the query, over leaves that come newest first: the docids go to the room, and zeros
-// after them. A refusal leaves zeros.
+// Lists all docids that satisfy the query, over leaves that come in any order, each with its level and index: the docids go
+// to the room, and zeros after them. A refusal leaves zeros.
 pub fn search(
     names: &[u8],
     name_ends: &[u32],
     leaves: &[u8],
     leaf_ends: &[u32],
+    levels: &[u32],
+    indexes: &[u32],
     query: &[u8],
     room: &mut [i64],
 ) -> Answer
-    ensures { λ r. ⌜ Searched (record { names = now (names .entry); name-ends = now («name_ends» .entry); leaves = now (leaves .entry); leaf-ends = now («leaf_ends» .entry); query = now (query .entry) }) (length (now (room .entry))) r (now (room .exit)) ⌝ }
+    ensures { λ r. ⌜ Searched (record { names = now (names .entry); name-ends = now («name_ends» .entry); leaves = now (leaves .entry); leaf-ends = now («leaf_ends» .entry); levels = now (levels .entry); indexes = now (indexes .entry); query = now (query .entry) }) (length (now (room .entry))) r (now (room .exit)) ⌝ }
 {
-    if !has_shape(names, name_ends, leaves, leaf_ends) {
+    let order = order_of(names, name_ends, leaves, leaf_ends, levels, indexes);
+    if !order.ok {
         return refused(room, Answer::Shape);
     }
     let reading = query::read(names, name_ends, query);
     if !reading.ok {
         return refused(room, Answer::Query);
     }
+    let count = leaf_ends.len();
     let sound = sound_leaves(leaves, leaf_ends, name_ends.len() as u32);
-    if sound < leaf_ends.len() {
+    if sound < count {
         return refused(room, Answer::Leaf(sound));
     }
     let compiled = reading.query;
-    let found = engine::run(compiled, leaves, leaf_ends, room);
+    let places = order.places;
+    let found = engine::run(compiled, leaves, leaf_ends, &places[0..count], room);
     if room.len() < found {
         return refused(room, Answer::Room(found));
     }

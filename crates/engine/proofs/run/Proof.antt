@@ -62,7 +62,7 @@ returns : tie.Need-returns
 returns c =
     let o = c .before .before .before .before .before .before .before .before .before .before .before .before .before .before .before .«open» in
     let s = c .before .before .before .before .before .before .before .before .before .before .before .before .before .before .before .before .before .before .before .before .before .before .before .before .before .before .before .before .before .clear .kept .0 in
-    rw (← s) (ran {query = c .before .before .before .before .before .before .before .before .before .before .before .before .before .before .before .before .before .before .before .before .before .before .before .before .before .before .before .before .before .before .before .before .before .args .query} (λ nodes columns terms w l. o .ensures .content nodes columns terms w l (omega (arith, l .small)) (omega arith, omega arith, omega arith, omega arith)) (o .kept .1 .1 .1 .1 .1 .1 .0) (c .before .before .before .rows .ensures))
+    rw (← s) (ran {query = c .before .before .before .before .before .before .before .before .before .before .before .before .before .before .before .before .before .before .before .before .before .before .before .before .before .before .before .before .before .before .before .before .before .before .args .query} (λ nodes columns terms w l. o .ensures .content nodes columns terms w l (omega (arith, l .small)) (omega arith, omega arith, omega arith, omega arith)) (o .kept .1 .1 .1 .1 .1 .1 .1 .0) (c .before .before .before .rows .ensures))
 
 pub run-spec : {M : Type 1} → statement M
 run-spec =

@@ -20,15 +20,15 @@ use Rattle.opening.proofs.open.Statement.{statement}
 use Rattle.opening.proofs.open.Tie as tie
 
 abbrev Inv-loop : tie.InvT-loop
-Inv-loop text stops marks count leaves ends docids₀ bodies₀ lasts₀ masks₀ follows₀ fronts₀ n₀ docids bodies lasts masks follows fronts n =
+Inv-loop text stops marks count leaves ends order docids₀ bodies₀ lasts₀ masks₀ follows₀ fronts₀ n₀ docids bodies lasts masks follows fronts n =
     let given = arrays docids₀ bodies₀ lasts₀ masks₀ follows₀ in
     let held = arrays docids bodies lasts masks follows in
-    Able leaves ends fronts given n
-    × ((nodes : List Node) (columns : ℕ) (terms : List (List Term)) → TextIs text stops marks count nodes → LeavesAre columns leaves ends terms → length leaves < wordSize * (length docids₀ + 1) → OpenSoFar nodes columns terms leaves ends fronts held n)
+    Able leaves ends order fronts given n
+    × ((nodes : List Node) (columns : ℕ) (terms : List (List Term)) → TextIs text stops marks count nodes → LeavesAre columns leaves ends order terms → length leaves < wordSize * (length docids₀ + 1) → OpenSoFar nodes columns terms leaves ends order fronts held n)
     × OpenFrame leaves given held n
 
 abbrev μ-loop : tie.MeasureT-loop
-μ-loop text stops marks count leaves ends docids₀ bodies₀ lasts₀ masks₀ follows₀ fronts₀ n₀ docids bodies lasts masks follows fronts n = length docids₀ - n
+μ-loop text stops marks count leaves ends order docids₀ bodies₀ lasts₀ masks₀ follows₀ fronts₀ n₀ docids bodies lasts masks follows fronts n = length docids₀ - n
 
 is-able-requires : tie.Need-is-able-requires Inv-loop μ-loop
 is-able-requires c κs = search needs
@@ -49,7 +49,7 @@ fronts-of-requires c κs = let k = c .before .is-able .ensures .0 (not-false _ (
 loop-holds : tie.Need-loop-holds Inv-loop μ-loop
 loop-holds c =
     let k = c .before .before .is-able .ensures .0 (not-false _ (c .before .if1 .left)) in
-    let a = c .before .before .before .before .before .before .before .before .before .before .before .before .before .args in (
+    let a = c .before .before .before .before .before .before .before .before .before .before .before .before .before .before .args in (
       record {
         openable = record { cuts = k .0; few = k .1; small = k .2; rooms = (k .3, k .4, k .5, k .6) };
         placed = c .fronts-of .ensures .0;
@@ -81,12 +81,12 @@ same-length-5 c = c .before .before .loop .inv .2 .follows-kept .size
 returns-2 : tie.Need-returns-2 Inv-loop μ-loop
 returns-2 c =
     let l = c .before .before .loop in
-    let a = c .before .before .before .before .before .before .before .before .before .before .before .before .before .before .before .before .args in
+    let a = c .before .before .before .before .before .before .before .before .before .before .before .before .before .before .before .before .before .args in
     let k = l .inv .0 in
     record {
       content =
           λ nodes columns terms w h r _.
-          going-end nodes columns terms (a .leaves .now) (a .ends .now) (l .fronts) (arrays (l .docids) (l .bodies) (l .lasts) (l .masks) (l .follows)) (l .n) (c .before .least .result)
+          going-end nodes columns terms (a .leaves .now) (a .ends .now) (a .order .now) (l .fronts) (arrays (l .docids) (l .bodies) (l .lasts) (l .masks) (l .follows)) (l .n) (c .before .least .result)
           (l .inv .1 nodes columns terms w h r) (c .before .least .ensures) h (c .if2 .taken);
       otherwise = not-opened (k .openable);
       frame = l .inv .2;
@@ -105,27 +105,27 @@ take-word-requires c κs =
     (able-as (v .0) (frame-lengths (v .2)), v .0 .placed (c .before .before .before .before .before .before .before .least .result) (c .before .before .before .before .before .before .if2 .left) .sized)
 
 same-length-6 : tie.Need-same-length-6 Inv-loop μ-loop
-same-length-6 c = c .before .before .before .before .before .before .before .before .before .before .before .before .take-word .kept .1 .1 .1 .1 .1 .1 .1 .1 .0 ∙ c .before .before .before .before .before .before .before .before .before .before .before .before .before .before .before .before .before .before .before .before .before .loop .inv .2 .docids-kept .size
+same-length-6 c = c .before .before .before .before .before .before .before .before .before .before .before .before .take-word .kept .1 .1 .1 .1 .1 .1 .1 .1 .1 .0 ∙ c .before .before .before .before .before .before .before .before .before .before .before .before .before .before .before .before .before .before .before .before .before .loop .inv .2 .docids-kept .size
 
 same-length-7 : tie.Need-same-length-7 Inv-loop μ-loop
-same-length-7 c = c .before .before .before .before .before .before .before .before .before .before .before .before .take-word .kept .1 .1 .1 .1 .1 .1 .1 .1 .1 .0 ∙ c .before .before .before .before .before .before .before .before .before .before .before .before .before .before .before .before .before .before .before .before .before .loop .inv .2 .bodies-kept .size
+same-length-7 c = c .before .before .before .before .before .before .before .before .before .before .before .before .take-word .kept .1 .1 .1 .1 .1 .1 .1 .1 .1 .1 .0 ∙ c .before .before .before .before .before .before .before .before .before .before .before .before .before .before .before .before .before .before .before .before .before .loop .inv .2 .bodies-kept .size
 
 same-length-8 : tie.Need-same-length-8 Inv-loop μ-loop
-same-length-8 c = c .before .before .before .before .before .before .before .before .before .before .before .before .take-word .kept .1 .1 .1 .1 .1 .1 .1 .1 .1 .1 .0 ∙ c .before .before .before .before .before .before .before .before .before .before .before .before .before .before .before .before .before .before .before .before .before .loop .inv .2 .lasts-kept .size
+same-length-8 c = c .before .before .before .before .before .before .before .before .before .before .before .before .take-word .kept .1 .1 .1 .1 .1 .1 .1 .1 .1 .1 .1 .0 ∙ c .before .before .before .before .before .before .before .before .before .before .before .before .before .before .before .before .before .before .before .before .before .loop .inv .2 .lasts-kept .size
 
 same-length-9 : tie.Need-same-length-9 Inv-loop μ-loop
-same-length-9 c = c .before .before .before .before .before .before .before .before .before .before .before .before .take-word .kept .1 .1 .1 .1 .1 .1 .1 .1 .1 .1 .1 .0 ∙ c .before .before .before .before .before .before .before .before .before .before .before .before .before .before .before .before .before .before .before .before .before .loop .inv .2 .masks-kept .size
+same-length-9 c = c .before .before .before .before .before .before .before .before .before .before .before .before .take-word .kept .1 .1 .1 .1 .1 .1 .1 .1 .1 .1 .1 .1 .0 ∙ c .before .before .before .before .before .before .before .before .before .before .before .before .before .before .before .before .before .before .before .before .before .loop .inv .2 .masks-kept .size
 
 same-length-10 : tie.Need-same-length-10 Inv-loop μ-loop
-same-length-10 c = c .before .before .before .before .before .before .before .before .before .before .before .before .take-word .kept .1 .1 .1 .1 .1 .1 .1 .1 .1 .1 .1 .1 .0 ∙ c .before .before .before .before .before .before .before .before .before .before .before .before .before .before .before .before .before .before .before .before .before .loop .inv .2 .follows-kept .size
+same-length-10 c = c .before .before .before .before .before .before .before .before .before .before .before .before .take-word .kept .1 .1 .1 .1 .1 .1 .1 .1 .1 .1 .1 .1 .1 .0 ∙ c .before .before .before .before .before .before .before .before .before .before .before .before .before .before .before .before .before .before .before .before .before .loop .inv .2 .follows-kept .size
 
 returns-3 : tie.Need-returns-3 Inv-loop μ-loop
 returns-3 c =
     let l = c .before .before .before .before .before .before .before .before .before .before .before .before .before .before .before .before .before .before .before .before .before .loop in
-    let a = c .before .before .before .before .before .before .before .before .before .before .before .before .before .before .before .before .before .before .before .before .before .before .before .before .before .before .before .before .before .before .before .before .before .before .before .args in
+    let a = c .before .before .before .before .before .before .before .before .before .before .before .before .before .before .before .before .before .before .before .before .before .before .before .before .before .before .before .before .before .before .before .before .before .before .before .before .args in
     let taken = c .before .before .before .before .before .before .before .before .before .before .before .before .take-word in
     let least = c .before .before .before .before .before .before .before .before .before .before .before .before .before .before .before .before .before .before .before .before .least in
-    let last = taken .last .1 .1 .1 .1 .1 .1 .1 .1 in
+    let last = taken .last .1 .1 .1 .1 .1 .1 .1 .1 .1 in
     let held : Arrays = arrays (last .0) (last .1 .0) (last .1 .1 .0) (last .1 .1 .1 .0) (last .1 .1 .1 .1 .0) in
     let given : Arrays = arrays (a .docids .now) (a .bodies .now) (a .lasts .now) (a .masks .now) (a .follows .now) in
     let z = l .inv .2 .docids-kept .size in
@@ -134,7 +134,7 @@ returns-3 c =
     record {
       content =
           λ nodes columns terms w h r _.
-          let next = going-next nodes columns terms (a .leaves .now) (a .ends .now) (l .fronts) (arrays (l .docids) (l .bodies) (l .lasts) (l .masks) (l .follows)) (l .n) (least .result)
+          let next = going-next nodes columns terms (a .leaves .now) (a .ends .now) (a .order .now) (l .fronts) (arrays (l .docids) (l .bodies) (l .lasts) (l .masks) (l .follows)) (l .n) (least .result)
           (l .inv .1 nodes columns terms w h r) (least .ensures) (c .before .before .before .before .before .before .before .before .before .before .before .before .before .before .before .before .before .before .before .if2 .left) held (taken .result) h (omega (arith, r, z)) (λ left cs. taken .ensures .1 .0 nodes columns left cs w) in
           absurd (omega (arith, next .0, c .if3 .taken));
       otherwise = not-opened (v .openable);
@@ -149,16 +149,16 @@ loop-less c = omega (arith, c .before .if3 .left, c .before .before .before .bef
 loop-again : tie.Need-loop-again Inv-loop μ-loop
 loop-again c =
     let l = c .before .before .before .before .before .before .before .before .before .before .before .before .before .before .before .before .before .before .before .before .before .before .loop in
-    let a = c .before .before .before .before .before .before .before .before .before .before .before .before .before .before .before .before .before .before .before .before .before .before .before .before .before .before .before .before .before .before .before .before .before .before .before .before .args in
+    let a = c .before .before .before .before .before .before .before .before .before .before .before .before .before .before .before .before .before .before .before .before .before .before .before .before .before .before .before .before .before .before .before .before .before .before .before .before .before .args in
     let taken = c .before .before .before .before .before .before .before .before .before .before .before .before .before .take-word in
     let least = c .before .before .before .before .before .before .before .before .before .before .before .before .before .before .before .before .before .before .before .before .before .least in
-    let last = taken .last .1 .1 .1 .1 .1 .1 .1 .1 in
+    let last = taken .last .1 .1 .1 .1 .1 .1 .1 .1 .1 in
     let held : Arrays = arrays (last .0) (last .1 .0) (last .1 .1 .0) (last .1 .1 .1 .0) (last .1 .1 .1 .1 .0) in
     let given : Arrays = arrays (a .docids .now) (a .bodies .now) (a .lasts .now) (a .masks .now) (a .follows .now) in
     let z = frame-lengths (l .inv .2) in (
       able-as (taken .ensures .0 .0) (lengths-back z),
       λ nodes columns terms w h r.
-          going-next nodes columns terms (a .leaves .now) (a .ends .now) (l .fronts) (arrays (l .docids) (l .bodies) (l .lasts) (l .masks) (l .follows)) (l .n) (least .result)
+          going-next nodes columns terms (a .leaves .now) (a .ends .now) (a .order .now) (l .fronts) (arrays (l .docids) (l .bodies) (l .lasts) (l .masks) (l .follows)) (l .n) (least .result)
           (l .inv .1 nodes columns terms w h r) (least .ensures) (c .before .before .before .before .before .before .before .before .before .before .before .before .before .before .before .before .before .before .before .before .if2 .left) held (taken .result) h (omega (arith, r, z .docid-length)) (λ left cs. taken .ensures .1 .0 nodes columns left cs w) .1,
       taken .ensures .1 .1 given (sym (z .docid-length)) (l .inv .2),
     )

@@ -1,0 +1,4 @@
+-- The definitions of this crate.
+
+pub mod Age
+pub mod Order
