@@ -1,5 +1,5 @@
-/* Measures the box beside SQLite and beside a plain C checker, on the same data in one run: repetitions are interleaved, and
- * the best of each counts.
+/* Measures the box beside SQLite and beside a plain C checker, and a verdict sheet beside its three searches, on the same data in one
+ * run: repetitions are interleaved, and the best of each counts.
  *
  *     bench FOLDER
  *
@@ -16,8 +16,8 @@
 #include <time.h>
 
 enum { MAX_LEAVES = 8, MAX_BYTES = 65536, COLUMNS = 3, ROOM = 65536, ROUNDS = 300, SIZES = 4, PATH = 4096 };
-/* The check has the narrowest bound, so that each checker needs a quiet moment. */
-enum { CHECK_ROUNDS = 3000 };
+/* The check and the sheet have the narrowest bounds, so that each side needs a quiet moment. */
+enum { CHECK_ROUNDS = 3000, SHEET_ROUNDS = 1000 };
 
 static const char NAMES[] = "nodesentoutcome";
 static const uint32_t NAME_ENDS[COLUMNS] = { 4, 8, 15 };
@@ -60,7 +60,11 @@ enum { ALL_MET, SOME_NOT_MET, NOT_MEASURED };
 /* More than any time measured. */
 #define NONE_YET 1e18
 
-static const double CHECK_LIMIT = 1.2, GROWTH_LIMIT = 2.4, WORST_LIMIT = 2e6;
+static const double CHECK_LIMIT = 1.2, GROWTH_LIMIT = 2.4, SHEET_LIMIT = 1.05, WORST_LIMIT = 2e6;
+
+/* The lists of a verdict sheet: passes, failures, silence. */
+enum { PASSES, FAILURES, SILENCE, LISTS };
+static const char *const SHEET[LISTS] = { "outcome:reply NOT outcome:timeout NOT outcome:late", "outcome:late", "outcome:timeout" };
 
 struct index {
     uint8_t leaves[MAX_BYTES];
@@ -75,7 +79,7 @@ struct times {
     uint64_t found;
 };
 
-static int64_t room[ROOM];
+static int64_t room[ROOM], sheet_rooms[LISTS][FTS4_SEARCH_ROOM];
 static int bounds, bounds_met;
 
 static double now(void)
@@ -156,14 +160,45 @@ static double plain_checks(const struct index *x, plain_check *check)
     return now() - start;
 }
 
-static double box_search(const struct index *x, const char *query, uint64_t *found)
+static double search_into(const struct index *x, const char *query, int64_t *into, size_t size, uint64_t *found)
 {
     double start = now();
     uint32_t answer = fts4_search((const uint8_t *)NAMES, strlen(NAMES), NAME_ENDS, COLUMNS, x->leaves, size_of(x), x->ends, x->count,
-                                  x->levels, x->count, x->indexes, x->count, (const uint8_t *)query, strlen(query), room, ROOM, found);
+                                  x->levels, x->count, x->indexes, x->count, (const uint8_t *)query, strlen(query), into, size, found);
     double spent = now() - start;
     if (answer != FTS4_ACCEPTED)
         fail("a search is refused");
+    return spent;
+}
+
+static double box_search(const struct index *x, const char *query, uint64_t *found)
+{
+    return search_into(x, query, room, ROOM, found);
+}
+
+/* The three searches of a sheet one after the other, each with a room of its own. */
+static double sheet_searches(const struct index *x, uint64_t found[LISTS])
+{
+    double spent = 0;
+    for (int k = 0; k < LISTS; k++)
+        spent += search_into(x, SHEET[k], sheet_rooms[k], FTS4_SEARCH_ROOM, &found[k]);
+    return spent;
+}
+
+/* The sheet of a run from docid 1 on. */
+static double box_sheet(const struct index *x, int64_t rows, uint64_t found[LISTS])
+{
+    int64_t second;
+    uint64_t none;
+    double start = now();
+    uint32_t answer = fts4_verdict(1, rows, (const uint8_t *)NAMES, strlen(NAMES), NAME_ENDS, COLUMNS, x->leaves, size_of(x), x->ends, x->count,
+                                   x->levels, x->count, x->indexes, x->count, (const uint8_t *)SHEET[PASSES], strlen(SHEET[PASSES]),
+                                   (const uint8_t *)SHEET[FAILURES], strlen(SHEET[FAILURES]), (const uint8_t *)SHEET[SILENCE], strlen(SHEET[SILENCE]),
+                                   sheet_rooms[PASSES], FTS4_SEARCH_ROOM, sheet_rooms[FAILURES], FTS4_SEARCH_ROOM, sheet_rooms[SILENCE], FTS4_SEARCH_ROOM,
+                                   &second, &found[PASSES], &found[FAILURES], &found[SILENCE], &none);
+    double spent = now() - start;
+    if (answer != FTS4_ACCEPTED || none != 0)
+        fail("a sheet is refused, or has not all rows");
     return spent;
 }
 
@@ -203,7 +238,7 @@ static struct times measure(const struct index *x, const char *query)
 }
 
 /* Counts the bound, and says whether it is met. */
-static const char *verdict(double value, double limit)
+static const char *judged(double value, double limit)
 {
     int met = value <= limit;
     bounds++;
@@ -227,7 +262,7 @@ static void table_of_checks(const struct index *x)
         printf("%s %s %.0f", c ? "," : "", CHECKERS[c].compiler, plain[c]);
         keep_least(&least, plain[c]);
     }
-    printf(" | %.2f | %.1f | %s |\n\n", box / least, CHECK_LIMIT, verdict(box / least, CHECK_LIMIT));
+    printf(" | %.2f | %.1f | %s |\n\n", box / least, CHECK_LIMIT, judged(box / least, CHECK_LIMIT));
 }
 
 static void table_of_queries(const struct index *x)
@@ -239,9 +274,9 @@ static void table_of_queries(const struct index *x)
         struct times t = measure(x, query->text);
         double less = (t.box - t.check) / t.sqlite, whole = t.box / t.sqlite;
         printf("| `%s` | %lu | %.0f | %.0f | %.0f | %.2f | %.1f | %s | %.2f |", query->text, (unsigned long)t.found, t.box, t.box - t.check, t.sqlite,
-               less, query->less_check, verdict(less, query->less_check), whole);
+               less, query->less_check, judged(less, query->less_check), whole);
         if (query->whole > 0)
-            printf(" %.1f | %s |\n", query->whole, verdict(whole, query->whole));
+            printf(" %.1f | %s |\n", query->whole, judged(whole, query->whole));
         else
             printf(" | |\n");
     }
@@ -258,8 +293,24 @@ static void table_of_growth(const struct index *all)
                 keep_least(&best[k], box_search(&all[k], QUERIES[q].text, &found));
         double growth = best[SIZES - 1] / best[SIZES - 2];
         printf("| `%s` | %.0f | %.0f | %.0f | %.0f | %.2f | %.1f | %s |\n", QUERIES[q].text, best[0], best[1], best[2], best[3], growth, GROWTH_LIMIT,
-               verdict(growth, GROWTH_LIMIT));
+               judged(growth, GROWTH_LIMIT));
     }
+}
+
+/* A sheet beside its three searches. Both fill the same rooms, so that what the sheet adds is left. */
+static void table_of_sheet(const struct index *x, int64_t rows)
+{
+    double sheet = NONE_YET, searches = NONE_YET;
+    uint64_t counted[LISTS], found[LISTS];
+    for (int i = 0; i < SHEET_ROUNDS; i++) {
+        keep_least(&searches, sheet_searches(x, found));
+        keep_least(&sheet, box_sheet(x, rows, counted));
+        if (memcmp(counted, found, sizeof found))
+            fail("the sheet counts otherwise than its searches");
+    }
+    printf("\n| verdict sheet, 3,200 rows | pass | fail | silent | sheet µs | three searches µs | sheet / searches | at most | |\n|---|---|---|---|---|---|---|---|---|\n");
+    printf("| | %lu | %lu | %lu | %.0f | %.0f | %.2f | %.2f | %s |\n", (unsigned long)found[PASSES], (unsigned long)found[FAILURES],
+           (unsigned long)found[SILENCE], sheet, searches, sheet / searches, SHEET_LIMIT, judged(sheet / searches, SHEET_LIMIT));
 }
 
 /* Each line of worst.txt: a folder, and the query that is dear on its leaves. */
@@ -286,7 +337,7 @@ static void table_of_worst(const char *folder)
             fail("a folder of worst.txt has no leaf");
         double spent = box_search(&x, query, &found);
         printf("| %s | `%.40s%s` | %lu | %.1f | %.0f | %s |\n", line, query, strlen(query) > 40 ? " .." : "", (unsigned long)found, spent / 1e3,
-               WORST_LIMIT / 1e3, verdict(spent, WORST_LIMIT));
+               WORST_LIMIT / 1e3, judged(spent, WORST_LIMIT));
         fflush(stdout);
     }
     fclose(f);
@@ -309,6 +360,7 @@ int main(int argc, char **argv)
     table_of_checks(&all[SIZES - 1]);
     table_of_queries(&all[SIZES - 1]);
     table_of_growth(all);
+    table_of_sheet(&all[SIZES - 1], ROWS[SIZES - 1]);
     table_of_worst(argv[1]);
     printf("\n%d of %d bounds met\n", bounds_met, bounds);
     return bounds_met == bounds ? ALL_MET : SOME_NOT_MET;

@@ -1,7 +1,8 @@
 /* Measures the stack that each call takes: the call runs on a thread whose stack was filled with a pattern, and the deepest
- * byte that no longer has it tells. Each call gets several inputs, the worst ones too; its largest depth is printed.
+ * byte that no longer has it tells. Each call gets several inputs, the worst ones too; its largest depth is printed. It fails if the
+ * verdict sheet takes more than the search and 1 KiB.
  *
- *     stack [CALL BOUND]    fails if CALL takes more than BOUND bytes
+ *     stack [CALL BOUND]    fails too if CALL takes more than BOUND bytes
  */
 #include "fts4box.h"
 
@@ -12,16 +13,19 @@
 #include <sys/mman.h>
 
 enum { STACK = 4 << 20, PATTERN = 0xA5, MAX_BYTES = 65536, MAX_LEAVES = 8, MAX_QUERY = 512, MAX_TEXTS = 4096, ROOM = 65536 };
+/* The lists of a sheet, and what it may take beside a search. */
+enum { LISTS = 3, SHEET_MORE = 1024 };
 
 static uint8_t *stack;
 static uint8_t leaves[MAX_BYTES], texts[MAX_TEXTS], bytes_room[ROOM];
-static int64_t docid_room[ROOM];
+static int64_t docid_room[ROOM], sheet_rooms[LISTS][ROOM];
 static uint32_t leaf_ends[MAX_LEAVES], levels[MAX_LEAVES], indexes[MAX_LEAVES], text_ends[16];
 static size_t leaves_len, leaf_count, texts_len, text_count;
-static const char *query;
+static const char *query, *sheet[LISTS];
 static const uint8_t names[] = "nodesentoutcome";
 static const uint32_t name_ends[] = {4, 8, 15};
-static uint64_t second, start, numbers_read;
+static uint64_t second, start, numbers_read, passed, failed, silenced, none;
+static int64_t signed_second;
 static uint32_t which;
 
 static void nothing(void)
@@ -53,6 +57,13 @@ static void search(void)
 {
     fts4_search(names, sizeof names - 1, name_ends, 3, leaves, leaves_len, leaf_ends, leaf_count, levels, leaf_count, indexes, leaf_count,
                 (const uint8_t *)query, strlen(query), docid_room, ROOM, &second);
+}
+
+static void verdict(void)
+{
+    fts4_verdict(1, FTS4_MAX_RUN, names, sizeof names - 1, name_ends, 3, leaves, leaves_len, leaf_ends, leaf_count, levels, leaf_count, indexes, leaf_count,
+                 (const uint8_t *)sheet[0], strlen(sheet[0]), (const uint8_t *)sheet[1], strlen(sheet[1]), (const uint8_t *)sheet[2], strlen(sheet[2]),
+                 sheet_rooms[0], ROOM, sheet_rooms[1], ROOM, sheet_rooms[2], ROOM, &signed_second, &passed, &failed, &silenced, &none);
 }
 
 struct run {
@@ -165,6 +176,24 @@ static size_t search_depth(size_t most)
     return most;
 }
 
+/* Each query as that of passes, of failures and of silence, the other two finding nothing; then rows in two lists. */
+static size_t sheet_depth(size_t most)
+{
+    for (size_t i = 0; i < sizeof QUERIES / sizeof *QUERIES; i++)
+        for (size_t place = 0; place < LISTS; place++) {
+            for (size_t k = 0; k < LISTS; k++)
+                sheet[k] = k == place ? QUERIES[i] : "absent";
+            most = larger(most, verdict);
+        }
+    sheet[0] = sheet[2] = "a";
+    return larger(most, verdict);
+}
+
+static size_t depth_over_queries(size_t most, void (*call)(void))
+{
+    return call == search ? search_depth(most) : call == verdict ? sheet_depth(most) : larger(most, call);
+}
+
 static size_t depth_over_leaves(void (*call)(void))
 {
     size_t most = 0;
@@ -173,10 +202,10 @@ static size_t depth_over_leaves(void (*call)(void))
             use_leaves(count, MAX_BYTES, rows);
             if (fts4_check(leaves, leaf_ends[0], 3, &second) != FTS4_ACCEPTED)
                 exit(2);
-            most = call == search ? search_depth(most) : larger(most, call);
+            most = depth_over_queries(most, call);
         }
     leaves[leaf_ends[0] - 1] = 1; /* a broken leaf */
-    return call == search ? search_depth(most) : larger(most, call);
+    return depth_over_queries(most, call);
 }
 
 static size_t write_depth(void)
@@ -207,13 +236,20 @@ int main(int argc, char **argv)
         {"fts4_deciding", depth_over_leaves(deciding)},
         {"fts4_write", write_depth()},
         {"fts4_search", depth_over_leaves(search)},
+        {"fts4_verdict", depth_over_leaves(verdict)},
     };
+    enum { COUNT = sizeof measured / sizeof *measured };
     int over = 0;
-    for (size_t i = 0; i < sizeof measured / sizeof *measured; i++) {
+    for (size_t i = 0; i < COUNT; i++) {
         printf("%-14s %7zu bytes\n", measured[i].name, measured[i].depth);
         over |= argc == 3 && !strcmp(argv[1], measured[i].name) && measured[i].depth > strtoul(argv[2], NULL, 10);
     }
     if (over)
         printf("%s takes more than %s bytes\n", argv[1], argv[2]);
+    /* the last two are the search and the sheet */
+    if (measured[COUNT - 1].depth > measured[COUNT - 2].depth + SHEET_MORE) {
+        printf("a sheet takes more than a search and %d bytes\n", SHEET_MORE);
+        over = 1;
+    }
     return over;
 }

@@ -1,5 +1,5 @@
 #!/usr/bin/env bash
-# Measures the stack that each call takes, and fails if the search takes more than 256 KiB.
+# Measures the stack that each call takes, and fails if the search takes more than 256 KiB, or the verdict sheet more than the search and 1 KiB.
 #
 #     bash bench/stack.sh [--built]    --built: the static library is built already
 set -euo pipefail

@@ -15,7 +15,7 @@
  * leaf is newer than another if its level is lower, or the levels are the same and its index is higher. No two have the same pair.
  *
  * What a caller must keep (it is not checked): every pointer is aligned and has so many elements from it on; the numbers to be
- * stored are not NULL; a room and those numbers do not overlap each other or an input.
+ * stored are not NULL; rooms and those numbers do not overlap each other or an input.
  *
  * Rooms. A refusal leaves the whole room zeros; acceptance leaves the result and then zeros. A room of length 0 is enough for
  * no result. Number 4 is given exactly when the need is greater than the room's length.
@@ -24,7 +24,7 @@
  * need no other symbol than memcpy, memmove and memset.
  *
  * Stack, measured on x86-64 (bench/stack.sh):
- *     fts4_check, fts4_lookup and fts4_deciding 1 KiB, fts4_write 37 KiB, fts4_search 254 KiB
+ *     fts4_check, fts4_lookup and fts4_deciding 1 KiB, fts4_write 37 KiB, fts4_search 254 KiB, fts4_verdict 255 KiB
  */
 #ifndef FTS4BOX_H
 #define FTS4BOX_H
@@ -37,8 +37,8 @@ extern "C" {
 #endif
 
 /* A change of a signature or of what a call answers raises the version. The number is 100 times its first part plus the second. */
-#define FTS4BOX_VERSION "1.5"
-#define FTS4BOX_VERSION_NUMBER 105
+#define FTS4BOX_VERSION "1.6"
+#define FTS4BOX_VERSION_NUMBER 106
 
 /* The bounds: what is over one is refused. */
 #define FTS4_MAX_QUERY 512      /* bytes of a query */
@@ -50,18 +50,20 @@ extern "C" {
 #define FTS4_MAX_NAME 32        /* bytes of a column name */
 #define FTS4_MAX_WORD 64        /* bytes of a word */
 #define FTS4_MAX_DOCUMENT 4096  /* bytes of a document's columns together */
+#define FTS4_MAX_RUN 4096       /* rows of a run, from its first docid to its last */
 
 /* Rooms that are enough for every input, so that number 4 is never given. */
-#define FTS4_SEARCH_ROOM 21845 /* docids */
+#define FTS4_SEARCH_ROOM 21845 /* docids of a search, or of each list of a verdict */
 #define FTS4_WRITE_ROOM 40960  /* bytes */
 
 enum {
-    FTS4_ACCEPTED = 0, /* second: docids listed, bytes written, or bytes in the part */
-    FTS4_SHAPE = 1,    /* ends, names, counts, sizes, levels and indexes or a word's length; second is 0 */
-    FTS4_QUERY = 2,    /* the query is not in the language or over a bound of it; second is 0 */
-    FTS4_LEAF = 3,     /* a leaf breaks a rule; second is the first such leaf, counted from 0 in the order lent */
-    FTS4_ROOM = 4,     /* the room is too small; second is what is needed */
-    FTS4_WORD = 5      /* a document word over 64 bytes; second is the first column that has one */
+    FTS4_ACCEPTED = 0,    /* second: docids listed, bytes written, bytes in the part, or rows of the run */
+    FTS4_SHAPE = 1,       /* ends, names, counts, sizes, levels and indexes, a word's length or a run; second is 0 */
+    FTS4_QUERY = 2,       /* a query is not in the language or over a bound of it; second is 0 */
+    FTS4_LEAF = 3,        /* a leaf breaks a rule; second is the first such leaf, counted from 0 in the order lent */
+    FTS4_ROOM = 4,        /* a room is too small; second is what is needed */
+    FTS4_WORD = 5,        /* a document word over 64 bytes; second is the first column that has one */
+    FTS4_TWO_VERDICTS = 7 /* a row of the run is in two lists; second is the smallest such docid */
 };
 
 /* Checks one leaf of a table with so many columns.
@@ -107,6 +109,29 @@ uint32_t fts4_search(const uint8_t *names, size_t names_len, const uint32_t *nam
                      const uint8_t *leaves, size_t leaves_len, const uint32_t *leaf_ends, size_t leaf_ends_len,
                      const uint32_t *levels, size_t levels_len, const uint32_t *indexes, size_t indexes_len,
                      const uint8_t *query, size_t query_len, int64_t *room, size_t room_len, uint64_t *second);
+
+/* The verdict sheet of a run: how many of its rows, from docid first to docid last, satisfy the query for passes, the one for
+ * failures and the one for silence, and how many satisfy none of them.
+ *
+ * Names, leaves, levels and indexes are lent as for a search, and each query is as there. Each list has a room of its own.
+ *
+ * Answers 0 with the rows of the run; or, checked in this order, 1 if last is below first or the run has more than 4,096 rows;
+ * all that fts4_search refuses the pass query for, with its second number; then the fail query; then the silent query; 7 with
+ * the smallest docid of the run that is in two lists. *second is signed, since that docid may be below 0.
+ *
+ * If the answer is 0, *passed, *failed and *silenced are the rows of the run in each list and *none those in no list; the four
+ * add up to *second. The rooms hold the three lists whole. Docids outside the run count nowhere and earn no 7: the passes of the
+ * run are the first *passed numbers of pass_room that lie from first to last, and likewise for the other rooms. If the answer is
+ * another, the four counts are 0 and the three rooms all zeros. */
+uint32_t fts4_verdict(int64_t first, int64_t last,
+                      const uint8_t *names, size_t names_len, const uint32_t *name_ends, size_t name_ends_len,
+                      const uint8_t *leaves, size_t leaves_len, const uint32_t *leaf_ends, size_t leaf_ends_len,
+                      const uint32_t *levels, size_t levels_len, const uint32_t *indexes, size_t indexes_len,
+                      const uint8_t *pass_query, size_t pass_query_len, const uint8_t *fail_query, size_t fail_query_len,
+                      const uint8_t *silent_query, size_t silent_query_len,
+                      int64_t *pass_room, size_t pass_room_len, int64_t *fail_room, size_t fail_room_len,
+                      int64_t *silent_room, size_t silent_room_len,
+                      int64_t *second, uint64_t *passed, uint64_t *failed, uint64_t *silenced, uint64_t *none);
 
 #ifdef __cplusplus
 }

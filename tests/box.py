@@ -1,4 +1,4 @@
-"""The five calls of the static library, each buffer against a guard page: one byte read or written outside is a crash.
+"""The six calls of the static library, each buffer against a guard page: one byte read or written outside is a crash.
 
 Rooms and numbers are filled with other values beforehand. Each call answers in the second program's form.
 """
@@ -46,9 +46,9 @@ class Box:
 
     def __init__(self, archive=fts4box.ARCHIVE):
         self.library = fts4box.load(archive)
-        self.inputs = [Arena(MOST_INPUT) for _ in range(7)]
-        self.room = Arena(MOST_ROOM)
-        self.numbers = [Arena(NUMBER_SIZE) for _ in range(3)]
+        self.inputs = [Arena(MOST_INPUT) for _ in range(9)]
+        self.rooms = [Arena(MOST_ROOM) for _ in range(3)]
+        self.numbers = [Arena(NUMBER_SIZE) for _ in range(5)]
         self.at_end = True
         self.null = False
 
@@ -63,8 +63,8 @@ class Box:
     def lend_numbers(self, *sizes):
         return [arena.place(bytes([FILL]) * size, self.at_end) for arena, size in zip(self.numbers, sizes)]
 
-    def lend_room(self, size):
-        return None if self.null and size == 0 else self.room.place(bytes([FILL]) * size, self.at_end)
+    def lend_rooms(self, *sizes):
+        return [None if self.null and size == 0 else arena.place(bytes([FILL]) * size, self.at_end) for arena, size in zip(self.rooms, sizes)]
 
     def check(self, leaf, columns):
         (second,) = self.lend_numbers(8)
@@ -85,17 +85,28 @@ class Box:
 
     def write(self, docid, texts, ends, room_len):
         (second,) = self.lend_numbers(8)
-        room = self.lend_room(room_len)
+        (room,) = self.lend_rooms(room_len)
         number = self.library.fts4_write(docid, *self.lend(texts, ends), room, room_len, second)
         return number, number_at(second, 8), ctypes.string_at(room, room_len) if room_len else b""
 
     def search(self, names, name_ends, leaves, leaf_ends, levels, indexes, query, room_len):
         (second,) = self.lend_numbers(8)
-        room = self.lend_room(8 * room_len)
+        (room,) = self.lend_rooms(8 * room_len)
         number = self.library.fts4_search(*self.lend(names, name_ends, leaves, leaf_ends, levels, indexes, query), room, room_len, second)
-        docids = list((ctypes.c_int64 * room_len).from_address(room)) if room_len else []
-        return number, number_at(second, 8), docids
+        return number, number_at(second, 8), docids_at(room, room_len)
+
+    def verdict(self, first, last, names, name_ends, leaves, leaf_ends, levels, indexes, pass_query, fail_query, silent_query, *room_lens):
+        second, *counts = self.lend_numbers(8, 8, 8, 8, 8)
+        rooms = self.lend_rooms(*(8 * room_len for room_len in room_lens))
+        inputs = self.lend(names, name_ends, leaves, leaf_ends, levels, indexes, pass_query, fail_query, silent_query)
+        lent_rooms = [part for room in zip(rooms, room_lens) for part in room]
+        number = self.library.fts4_verdict(first, last, *inputs, *lent_rooms, second, *counts)
+        return number, number_at(second, 8, signed=True), tuple(number_at(count, 8) for count in counts), [docids_at(*room) for room in zip(rooms, room_lens)]
 
 
-def number_at(address, size):
-    return int.from_bytes(ctypes.string_at(address, size), "little")
+def number_at(address, size, signed=False):
+    return int.from_bytes(ctypes.string_at(address, size), "little", signed=signed)
+
+
+def docids_at(address, count):
+    return list((ctypes.c_int64 * count).from_address(address)) if count else []

@@ -3,7 +3,7 @@ import paths  # noqa: F401
 from fts4box import joined  # noqa: F401
 
 # What a case asks for: the number that it begins with, as in crates/cases/src/main.rt; 0 ends the input.
-READ, SIZE, WRITE, CUT, NAMES, WORD, CHECK, LOOKUP, DECIDING, QUERY, DOCUMENT, SEARCH = range(1, 13)
+READ, SIZE, WRITE, CUT, NAMES, WORD, CHECK, LOOKUP, DECIDING, QUERY, DOCUMENT, SEARCH, VERDICT = range(1, 14)
 
 
 class Cases:
@@ -13,9 +13,9 @@ class Cases:
         self.asked = bytearray()
         self.lines = []
 
-    def ask(self, kind, n=0, m=0, first=b"", first_ends=(), second=b"", second_ends=(), pairs=(), short=b""):
-        """One case: every case has all parts but the pairs, and those that it does not need are 0 or empty. Pairs are the two lists of levels and
-        indexes, and only a search has them."""
+    def ask(self, kind, n=0, m=0, first=b"", first_ends=(), second=b"", second_ends=(), pairs=(), short=b"", shorts=(), rooms=()):
+        """One case: every case has all parts up to `short` but the pairs, and those that it does not need are 0 or empty. Pairs are the two lists of levels
+        and indexes, and only a search and a verdict have them. `shorts` are the verdict's two further short fields, `rooms` its three room sizes."""
         self.number(kind)
         self.number(n)
         self.number(m)
@@ -26,6 +26,10 @@ class Cases:
         for numbers in pairs:
             self.ends(numbers)
         self.field(short)
+        for data in shorts:
+            self.field(data)
+        for size in rooms:
+            self.number(size)
 
     def number(self, n):
         self.asked += n.to_bytes(8, "big")

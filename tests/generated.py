@@ -9,6 +9,9 @@ COLUMNS = [b"node", b"sent", b"outcome", b"Outcome", b"NODE"]
 FEW_WORDS = [b"no", b"reply", b"rep"]
 NEARS = [b" NEAR ", b" NEAR/0 ", b" NEAR/1 ", b" NEAR/2 ", b" NEAR/3 ", b" NEAR/12 "]
 OPERATORS = [b" AND ", b" OR ", b" NOT ", b" ", b"  ", b"\t"]
+# what many rows satisfy
+BROAD = [b"reply", b"late", b"no", b"timeout", b"re*", b"n1*", b"t1* OR t2*", b"node:n*", b"outcome:no*", b"late OR timeout"]
+BENCH_SHEET = [b"reply NOT timeout NOT late", b"late NOT timeout", b"timeout"]
 
 
 def any_docid(rng):
@@ -121,3 +124,10 @@ def some_tall(rng):
             query, depth = b"(" + query + b")", depth + 1
         query = query + operator + word if rng.randrange(3) else word + operator + query
     return query
+
+
+def some_sheet(rng):
+    """Three queries for a sheet: three times in four such that no row satisfies two of them."""
+    one, other, third = (some_chain(rng) if rng.randrange(6) == 0 else rng.choice(BROAD) for _ in range(3))
+    apart = [b"(%s) NOT (%s)" % (one, other), b"(%s) NOT (%s)" % (other, one), b"(%s) AND (%s)" % (one, other)]
+    return list(rng.choice(([one, other, third], apart, apart[::-1], BENCH_SHEET)))

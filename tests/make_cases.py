@@ -4,9 +4,10 @@
     python3 tests/make_cases.py            write them
     python3 tests/make_cases.py --check    fail if the committed ones differ from what would be written
 
-A case is the number of what it asks for, two numbers, two fields with their ends, in a search the levels and the indexes, and a
-short field (case_writer.py). A number takes eight bytes, the highest first; a field is its length and its bytes; ends, levels and
-indexes are their count and four bytes each. The number 0 ends the input. The seeds are fixed.
+A case is the number of what it asks for, two numbers, two fields with their ends, in a search and a verdict the levels and the indexes, and a
+short field; a verdict has three short fields and three room sizes after them (case_writer.py). A number takes eight bytes, the highest
+first; a field is its length and its bytes; ends, levels and indexes are their count and four bytes each. The number 0 ends the input. The
+seeds are fixed.
 """
 import os
 import sys
@@ -15,12 +16,13 @@ import ground_cases
 import leaf_cases
 import query_cases
 import search_cases
+import verdict_cases
 import writer_cases
 from case_writer import Cases
 
 ROOT = os.path.dirname(os.path.dirname(os.path.abspath(__file__)))
 FOLDER = os.path.join(ROOT, "crates", "cases")
-LAYERS = [ground_cases, leaf_cases, query_cases, writer_cases, search_cases]
+LAYERS = [ground_cases, leaf_cases, query_cases, writer_cases, search_cases, verdict_cases]
 
 
 def files():

@@ -1,4 +1,4 @@
-"""A second program for the FTS4 leaf checker, lookup, leaf writer and search.
+"""A second program for the FTS4 leaf checker, lookup, leaf writer, search and verdict sheet.
 
 It is written from document 01, "Build specification and rules", and document 02,
 "Requested changes after the base", alone, in the order of document 01, and gives
@@ -21,9 +21,11 @@ MAX_QUERY_WORDS = 16
 MAX_DEPTH = 8
 MAX_DOCUMENT_BYTES = 4096
 DEFAULT_DISTANCE = 3  # document 02, section 7
+MAX_RUN_ROWS = 4096  # document 02, section 13
 ANY_COLUMN = 65535
 
 ACCEPTED, SHAPE, QUERY, LEAF, ROOM, LONG_WORD = range(6)
+TWO_VERDICTS = 7  # document 02, section 13
 
 WHITE_SPACE = b" \t\n\x0b\x0c\r"
 PROGRAM_COLUMNS = [b"node", b"sent", b"outcome"]
@@ -731,6 +733,36 @@ def search(names, name_ends, leaves, leaf_ends, levels, indexes, query, room_len
     if len(docids) > room_len:
         return ROOM, len(docids), empty
     return ACCEPTED, len(docids), docids + [0] * (room_len - len(docids))
+
+
+# The verdict sheet
+
+
+def verdict(first, last, names, name_ends, leaves, leaf_ends, levels, indexes, pass_query, fail_query, silent_query, pass_len, fail_len, silent_len):
+    """The sheet's answer: its two numbers, the counts (pass, fail, silent, none) and the three rooms.
+
+    Document 02, section 13: the run's own 1, then all refusals of the pass
+    search, of the fail search, of the silent search, then 7. A docid outside
+    the run stays in its room, and nothing else is said of it.
+    """
+    room_lens = pass_len, fail_len, silent_len
+    refused = (0, 0, 0, 0), [[0] * room_len for room_len in room_lens]
+    if last < first or last - first + 1 > MAX_RUN_ROWS:
+        return SHAPE, 0, *refused
+    lists, rooms = [], []
+    for query, room_len in zip((pass_query, fail_query, silent_query), room_lens):
+        number, beside, room = search(names, name_ends, leaves, leaf_ends, levels, indexes, query, room_len)
+        if number != ACCEPTED:
+            return number, beside, *refused
+        lists.append(set(room[:beside]))
+        rooms.append(room)
+    run = range(first, last + 1)
+    in_two = [docid for docid in run if sum(docid in listed for listed in lists) > 1]
+    if in_two:
+        return TWO_VERDICTS, min(in_two), *refused
+    counts = [sum(docid in listed for docid in run) for listed in lists]
+    in_none = sum(all(docid not in listed for listed in lists) for docid in run)
+    return ACCEPTED, len(run), (*counts, in_none), rooms
 
 
 # The program

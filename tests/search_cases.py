@@ -128,20 +128,30 @@ def faults(cases):
                     ask(cases, query, leaves, room, names)
 
 
-def silence(cases):
-    """312 rows, 40 of them silence; then the list of "timeout" damaged at each place, and its length lowered."""
-    rows = [(d, [b"", b"", b"no reply, timeout" if d % 7 == 0 and d < 281 else b"reply"]) for d in range(1, 313)]
-    leaf = leaf_of(rows)
-    assert reference.search(*joined(NAMES), *lending.in_order([leaf]), VERDICT, SILENCE_ROOM)[:2] == (0, 272)
-    ask(cases, VERDICT, [leaf], SILENCE_ROOM)
+def certificate_leaf():
+    """312 rows, 40 of them silence."""
+    return leaf_of([(d, [b"", b"", b"no reply, timeout" if d % 7 == 0 and d < 281 else b"reply"]) for d in range(1, 313)])
+
+
+def with_damaged_timeout(leaf):
+    """The leaf with the list of "timeout" damaged at each place, and with its length lowered."""
     start, end = [(a, e) for term, _, a, e in reference.parse_leaf(leaf, 3) if term == b"timeout"][0]
     for at in range(start, end):
-        ask(cases, VERDICT, [leaf[:at] + leaf[at + 1:]], SILENCE_ROOM)
-        ask(cases, VERDICT, [leaf[:at]], SILENCE_ROOM)
+        yield leaf[:at] + leaf[at + 1:]
+        yield leaf[:at]
     size = end - start
     stored = len(reference.encode_varint(size))
     for lower in range(size):
-        ask(cases, VERDICT, [leaf[:start - stored] + reference.encode_varint(lower) + leaf[start:]], SILENCE_ROOM)
+        yield leaf[:start - stored] + reference.encode_varint(lower) + leaf[start:]
+
+
+def silence(cases):
+    """The certificate; then with each damage to its silence."""
+    leaf = certificate_leaf()
+    assert reference.search(*joined(NAMES), *lending.in_order([leaf]), VERDICT, SILENCE_ROOM)[:2] == (0, 272)
+    ask(cases, VERDICT, [leaf], SILENCE_ROOM)
+    for damaged in with_damaged_timeout(leaf):
+        ask(cases, VERDICT, [damaged], SILENCE_ROOM)
 
 
 def positions(cases):

@@ -1,11 +1,11 @@
 #!/usr/bin/env python3
-"""The five calls of the static library against the second program, on sound, damaged and random input.
+"""The six calls of the static library against the second program, on sound, damaged and random input.
 
     python3 tests/test_box.py [CALLS [SEED]]
 
 Inputs, rooms and numbers lie against guard pages. Leaves are lent in some order, with pairs of level and index that say their age. The report
-counts by call and answer; each answer that a call can give must be at least 1 % of its cases, and so must answers on docids below 0, and lists that would be
-others if age were the order lent; those on the least and the largest docid at least 0.1 %.
+counts by call and answer; each answer that a call can give must be at least 1 % of its cases, and so must answers on docids below 0, lists that would be
+others if age were the order lent, and sheets with all four counts and with docids outside the run; those on the least and the largest docid at least 0.1 %.
 """
 import collections
 import faulthandler
@@ -22,8 +22,12 @@ from generated import EDGES, LEAST_DOCID, TOP_DOCID
 from leaf_cases import MINUS_1, damaged, leaf_of_size, random_leaf
 from search_cases import NAMES, leaf_of, leaf_with
 from tally import Tally
+from verdict_cases import WORDS, words_leaf
 
 CALLS, SEED = 60000, 20266
+MOST_ROWS = reference.MAX_RUN_ROWS
+# more docids than a generated index has
+ENOUGH = 64
 DOCIDS = sorted({*range(-15, 15), -2**20, -129, -128, 127, 128, 2**20, *EDGES})
 
 
@@ -201,16 +205,53 @@ def some_names(rng):
     return rng.choice(([], [junk(rng), junk(rng)], [b"a"], [b"a", b"A", b"b"], [b"a b"], [b"c" * 33], numbered[:16], numbered))
 
 
-def search(rng, pool):
+def some_lent(rng, pool):
+    """Names, leaves and their pairs, as a search takes them; now and then with no shape."""
     names, name_ends = joined(some_names(rng))
     leaves, leaf_ends, *pairs = lending.lent(rng, some_leaves(rng, pool))
     if rng.randrange(24) == 0:
         pairs = other_pairs(rng, *pairs)
-    asked = names, some_ends(rng, names, name_ends), leaves, some_ends(rng, leaves, leaf_ends), *pairs, some_query(rng)
+    return names, some_ends(rng, names, name_ends), leaves, some_ends(rng, leaves, leaf_ends), *pairs
+
+
+def search(rng, pool):
+    asked = *some_lent(rng, pool), some_query(rng)
     if rng.randrange(3):
         return *asked, rng.choice((0, 1, 2, 4, 16, 40))
     need = reference.search(*asked, 0)[1]
     return *asked, rng.choice((need, need, need + 2, max(need - 1, 0)))
+
+
+def some_run(rng):
+    """A run among the docids of the rows mostly, or at one of the edges; now and then none."""
+    if rng.randrange(16) == 0:
+        first = rng.choice(DOCIDS)
+        last = rng.choice((first - 1, first + MOST_ROWS, -first, LEAST_DOCID, TOP_DOCID))
+        return first, min(max(last, LEAST_DOCID), TOP_DOCID)
+    rows = rng.choice((1, 3, 10, 31, 31, MOST_ROWS))
+    if rng.randrange(3):
+        first = rng.randrange(-20, 15)
+        return first, first + rows - 1
+    docid = rng.choice(EDGES)
+    return (max(docid - rows + 1, LEAST_DOCID), docid) if rng.randrange(2) else (docid, min(docid + rows - 1, TOP_DOCID))
+
+
+def sheet_queries(rng):
+    """Three queries, of which now and then one is wrong."""
+    queries = generated.some_sheet(rng)
+    if rng.randrange(5) == 0:
+        queries[rng.randrange(3)] = some_query(rng)
+    return queries
+
+
+def verdict(rng, pool):
+    lent, queries = some_lent(rng, pool), sheet_queries(rng)
+    rooms = [ENOUGH] * 3
+    if rng.randrange(4) == 0:
+        rooms = [reference.search(*lent, query, 0)[1] + rng.choice((0, 0, 2)) for query in queries]
+    if rng.randrange(6) == 0:
+        rooms[rng.randrange(3)] = rng.randrange(3)
+    return *some_run(rng), *lent, *queries, *rooms
 
 
 def pools(rng):
@@ -236,6 +277,9 @@ def large(tally, box):
                 for room in (2298, 2299, 4096):
                     asked = *names, *lending.in_order([half, full]), query, room
                     tally.check("search in %d bytes" % total, box.search(*asked), reference.search(*asked))
+            for rooms in ((0, 0, 2299), (0, 0, 2298)):
+                asked = 1, 2300, *names, *lending.in_order([half, full]), b"n1 NOT timeout", b"w*", b"no NEAR/1 timeout", *rooms
+                tally.check("verdict in %d bytes" % total, box.verdict(*asked), reference.verdict(*asked))
 
 
 def many_lists(tally, box):
@@ -251,6 +295,24 @@ def many_lists(tally, box):
         for docid in (LEAST_DOCID, -1, 0, TOP_DOCID):
             asked = wide, b"\x00\x01a\x02\x00\x00", 3, b"w%04d" % n, docid
             tally.check("deciding in many lists", box.deciding(*asked), reference.deciding(*asked))
+
+
+def full_runs(tally, box):
+    """Runs of 4,096 rows and one more, all in one list, a quarter in each and a quarter in none, the last or the first in two; lists longer than the run."""
+    rooms = MOST_ROWS, MOST_ROWS, MOST_ROWS
+    for first in (LEAST_DOCID, -MOST_ROWS // 2, TOP_DOCID - MOST_ROWS):
+        rows = range(first, first + MOST_ROWS)
+        for lists in ((rows, [], []), (rows[0::4], rows[1::4], rows[2::4]), (rows, [], rows[-1:]), (rows[:1], rows, []), ([], rows[1:], rows[:2])):
+            lent = *joined(NAMES), *lending.in_order([words_leaf(*lists)])
+            for last in (rows[-1] - 1, rows[-1], rows[-1] + 1):
+                asked = first, last, *lent, *WORDS, *rooms
+                tally.check("sheet of a full run", box.verdict(*asked), reference.verdict(*asked))
+    many = range(-10000, 11800)
+    lent = *joined(NAMES), *lending.in_order([words_leaf(many)])
+    for first in (-10000, -2048, 11800 - MOST_ROWS, 11800):
+        for rooms in ((len(many), 0, 0), (len(many) - 1, 0, 0)):
+            asked = first, first + MOST_ROWS - 1, *lent, *WORDS, *rooms
+            tally.check("sheet over a long list", box.verdict(*asked), reference.verdict(*asked))
 
 
 def long_leaf(rng):
@@ -287,50 +349,70 @@ def long_rows(tally, box, rng):
     tally.check("long rows found", found > 50, True)
 
 
-MADE = {"check": check, "lookup": lookup, "deciding": deciding, "write": write, "search": search}
+MADE = {"check": check, "lookup": lookup, "deciding": deciding, "write": write, "search": search, "verdict": verdict}
 SECOND = {
     "check": reference.check_leaf, "lookup": reference.lookup, "deciding": reference.deciding, "write": reference.write_leaf,
-    "search": reference.search,
+    "search": reference.search, "verdict": reference.verdict,
 }
-POSSIBLE = {"check": (0, 1, 3), "lookup": (0, 1, 3), "deciding": (0, 1, 3), "write": (0, 1, 4, 5), "search": (0, 1, 2, 3, 4)}
+POSSIBLE = {
+    "check": (0, 1, 3), "lookup": (0, 1, 3), "deciding": (0, 1, 3), "write": (0, 1, 4, 5), "search": (0, 1, 2, 3, 4), "verdict": (0, 1, 2, 3, 4, 7),
+}
+# where the levels stand among the arguments of a call that takes an index
+LEVELS_AT = {"search": 4, "verdict": 6}
 # A check has nothing beside its answer; of the other calls' accepted cases some must find, write or list something.
 NOT_EMPTY = "0 and not empty"
 # What is found, written or listed has a docid below 0; the least one; the largest one.
 BELOW, LEAST, LARGEST = "0 and below 0", "0 and the least docid", "0 and the largest docid"
-WITH_DOCIDS = "deciding", "write", "search"
-# The list is not that of the leaves as they are lent, were these newest first.
+WITH_DOCIDS = "deciding", "write", "search", "verdict"
+# The answer is not that of the leaves as they are lent, were these newest first.
 BY_AGE = "0 and by age"
+# Rows in each list and rows in none; listed docids that are not of the run; a docid below 0 in two lists.
+ALL_COUNTS, OUTSIDE, TWO_BELOW = "0 and all four counts", "0 and docids outside", "7 and below 0"
+
+
+def in_run(asked, docids):
+    first, last, *_ = asked
+    return [docid for docid in docids if first <= docid <= last]
 
 
 def docids_of(name, asked, got):
-    """The docids of what a call found, wrote or listed."""
+    """The docids of what a call found, wrote, listed or counted. The counted docids of a room come before its zeros."""
+    if name == "verdict":
+        return [docid for room, count in zip(got[3], got[2]) for docid in in_run(asked, room)[:count]]
     if got[0] != 0 or got[1] == 0:
         return []
     return got[2][:got[1]] if name == "search" else [asked[0] if name == "write" else asked[4]]
 
 
-def by_age(asked, got):
-    """Whether the pairs decide what is listed."""
-    names, name_ends, leaves, leaf_ends, levels, _, *rest = asked
-    return got[0] == 0 and reference.search(names, name_ends, leaves, leaf_ends, list(range(len(levels))), [0] * len(levels), *rest) != got
+def by_age(name, asked, got):
+    """Whether the pairs decide what is answered."""
+    at = LEVELS_AT[name]
+    count = len(asked[at])
+    return got[0] == 0 and SECOND[name](*asked[:at], list(range(count)), [0] * count, *asked[at + 2:]) != got
 
 
 def counted(counts, name, asked, got):
     counts[got[0]] += 1
-    counts[NOT_EMPTY] += got[0] == 0 and got[1] > 0
+    counts[NOT_EMPTY] += got[0] == 0 and (sum(got[2][:3]) if name == "verdict" else got[1]) > 0
     if name in WITH_DOCIDS:
         docids = docids_of(name, asked, got)
         counts[BELOW] += any(docid < 0 for docid in docids)
         counts[LEAST] += LEAST_DOCID in docids
         counts[LARGEST] += TOP_DOCID in docids
-    if name == "search":
-        counts[BY_AGE] += by_age(asked, got)
+    if name in LEVELS_AT:
+        counts[BY_AGE] += by_age(name, asked, got)
+    if name == "verdict":
+        counts[ALL_COUNTS] += min(got[2]) > 0
+        listed = [docid for room in got[3] for docid in room if docid != 0]
+        counts[OUTSIDE] += len(in_run(asked, listed)) < len(listed)
+        counts[TWO_BELOW] += got[0] == reference.TWO_VERDICTS and got[1] < 0
 
 
 def kinds_of(name):
     if name == "check":
         return POSSIBLE[name]
-    return *POSSIBLE[name], NOT_EMPTY, *((BELOW, LEAST, LARGEST) if name in WITH_DOCIDS else ()), *((BY_AGE,) if name == "search" else ())
+    kinds = *POSSIBLE[name], NOT_EMPTY, *((BELOW, LEAST, LARGEST) if name in WITH_DOCIDS else ()), *((BY_AGE,) if name in LEVELS_AT else ())
+    return *kinds, *((ALL_COUNTS, OUTSIDE, TWO_BELOW) if name == "verdict" else ())
 
 
 def report(tally, counts):
@@ -354,12 +436,13 @@ def main(words):
     counts = {name: collections.Counter() for name in MADE}
     large(tally, box)
     many_lists(tally, box)
+    full_runs(tally, box)
     long_rows(tally, box, random.Random(seed))
     for i in range(calls):
         if i % 20000 == 0:
             pool = pools(rng)
         name = rng.choice(tuple(MADE))
-        asked = search(rng, pool) if name == "search" else MADE[name](rng)
+        asked = MADE[name](rng, pool) if name in LEVELS_AT else MADE[name](rng)
         box.at_end, box.null = rng.randrange(4) != 0, rng.randrange(2) == 0
         got = getattr(box, name)(*asked)
         counted(counts[name], name, asked, got)

@@ -145,39 +145,55 @@ def python_calls(tally):
     tally.check("bytes are taken", fts4box.search(library, [b"node"], [], [], [], b"x"), (0, 0, []))
     for level, index in ((0, 0), (2**32 - 1, 0), (0, 2**32 - 1)):
         tally.check("and numbers", fts4box.search(library, [b"node"], [leaf], [level], [index], b"x"), (0, 1, [7]))
+    python_sheets(tally, library, leaf)
 
 
-# the calls of version 1.4, which took leaves without levels and indexes; the number stored is one that no caller expects
-VERSION_1_4 = """
-#include <stddef.h>
-#include <stdint.h>
-void fts4_check(void) {}
-void fts4_lookup(void) {}
-void fts4_deciding(void) {}
-void fts4_write(void) {}
-uint32_t fts4_search(const uint8_t *names, size_t names_len, const uint32_t *name_ends, size_t name_ends_len, const uint8_t *leaves, size_t leaves_len,
-                     const uint32_t *leaf_ends, size_t leaf_ends_len, const uint8_t *query, size_t query_len, int64_t *room, size_t room_len, uint64_t *second)
-{
-    (void)names, (void)names_len, (void)name_ends, (void)name_ends_len, (void)leaves, (void)leaves_len, (void)leaf_ends, (void)leaf_ends_len, (void)query;
-    for (size_t i = 0; i < room_len; i++)
-        room[i] = 0;
-    *second = UINT64_MAX;
-    return query_len == 0 ? 2 : 0;
-}
-"""
+def python_sheets(tally, library, leaf):
+    """A sheet from Python: what is no docid or no bytes is not taken; the lists are those of the run, also with docid 0 in it."""
+    lent = [b"node"], [leaf], [0], [0]
+    for run, queries, said in (
+        *(((number, 7), (b"x", b"y", b"z"), "a number from -9223372036854775808") for number in (-2**63 - 1, 2**63, 2**64, 1.0, "0", None, True)),
+        *(((7, number), (b"x", b"y", b"z"), "a number from -9223372036854775808") for number in (-2**63 - 1, 2**63, None)),
+        *(((7, 7), queries, "bytes are wanted") for queries in (("x", b"y", b"z"), (b"x", "y", b"z"), (b"x", b"y", None))),
+    ):
+        try:
+            fts4box.verdict(library, *run, *lent, *queries)
+            tally.fail("taken: %r %r" % (run, queries))
+        except TypeError as error:
+            tally.check("what is said of %r %r" % (run, queries), said in str(error), True)
+    for run, queries, expected in (
+        ((7, 7), (b"x", b"y", b"z"), (0, 1, (1, 0, 0, 0), [[7], [], []])),
+        ((7, 8), (b"y", b"x", b"z"), (0, 2, (0, 1, 0, 1), [[], [7], []])),
+        ((-3, 7), (b"y", b"z", b"x"), (0, 11, (0, 0, 1, 10), [[], [], [7]])),
+        ((-3, 6), (b"x", b"x", b"x"), (0, 10, (0, 0, 0, 10), [[], [], []])),
+        ((-3, 7), (b"x", b"y", b"x"), (7, 7, (0, 0, 0, 0), [[], [], []])),
+        ((8, 7), (b"x", b"y", b"z"), (1, 0, (0, 0, 0, 0), [[], [], []])),
+        ((7, 7), (b"x", b"y AND", b"z"), (2, 0, (0, 0, 0, 0), [[], [], []])),
+    ):
+        tally.check("a sheet of %r %r" % (run, queries), fts4box.verdict(library, *run, *lent, *queries), expected)
+    # docids -1, 0 and 1 have the word x
+    around_0 = b"\0\1x\x12" + b"\xff" * 9 + b"\1\2\0\1\2\0\1\2\0"
+    for run, docids in (((-1, 1), [-1, 0, 1]), ((0, 0), [0]), ((-5, -1), [-1]), ((1, 5), [1])):
+        counts = len(docids), 0, 0, run[1] - run[0] + 1 - len(docids)
+        expected = 0, run[1] - run[0] + 1, counts, [docids, [], []]
+        tally.check("a sheet about 0, %s" % (run,), fts4box.verdict(library, *run, [b"node"], [around_0], [0], [0], b"x", b"y", b"z"), expected)
+
+
+# the calls of version 1.5; a library before it has the same names
+VERSION_1_5 = "".join("void %s(void) {}\n" % name for name in ("fts4_check", "fts4_lookup", "fts4_deciding", "fts4_write", "fts4_search"))
 
 
 def other_version(tally):
-    """A library of version 1.4 is noticed before anything is asked of it."""
+    """A library before version 1.6 is noticed before anything is asked of it."""
     with tempfile.TemporaryDirectory() as place:
         source, compiled, archive = (os.path.join(place, name) for name in ("calls.c", "calls.o", "calls.a"))
         with open(source, "w", encoding="ascii") as f:
-            f.write(VERSION_1_4)
+            f.write(VERSION_1_5)
         subprocess.run(["cc", "-fPIC", "-Wall", "-Wextra", "-Werror", "-c", "-o", compiled, source], check=True)
         subprocess.run(["ar", "rc", archive, compiled], check=True)
         try:
             fts4box.load(archive)
-            tally.fail("a library of version 1.4 is taken")
+            tally.fail("a library of version 1.5 is taken")
         except fts4box.NoLibrary as error:
             tally.check("what is said: %s" % error, [part for part in (archive, "another version", "rt staticlib fts4box") if part not in str(error)], [])
 

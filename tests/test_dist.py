@@ -16,12 +16,13 @@ from tally import Tally
 SCRIPT = os.path.join(paths.TOOLS, "dist.sh")
 NAME = "fts4box-" + header.VERSION
 FILES = [
-    "SHA256SUMS", "docs/GUARANTEES.md", "docs/REFERENCE.md", "examples/folder.c", "examples/search.c", "include/fts4box.h", "lib/libfts4box.a",
-    "lib/pkgconfig/fts4box.pc",
+    "SHA256SUMS", "docs/GUARANTEES.md", "docs/REFERENCE.md", "examples/folder.c", "examples/search.c", "examples/verdict.c", "include/fts4box.h",
+    "lib/libfts4box.a", "lib/pkgconfig/fts4box.pc",
 ]
 STRICT = ["-std=c99", "-Wall", "-Wextra", "-Werror", "-Wpedantic"]
 ROW = [b"n12", b"probe", b"reply reply"]
 EXPECTED = "docs 1\n7\n"
+SHEET = "rows 4\npassed 1\n7\nfailed 1\n8\nsilent 1\n9\nnone 1\n"
 
 
 def ran(*command, **how):
@@ -72,11 +73,11 @@ def flags(tally, tree):
 
 def examples(tally, tree, export):
     for what, words in flags(tally, tree):
-        for name, arguments in (("search", []), ("folder", [export, "reply"])):
+        for name, arguments, expected in (("search", [], EXPECTED), ("folder", [export, "reply"], EXPECTED), ("verdict", [], SHEET)):
             # the library must come after the source that needs it
             build = ["cc", *STRICT, "-o", name, os.path.join("examples", name + ".c"), *words]
             if tally.check("build of %s, %s" % (name, what), ran(*build, cwd=tree), (0, "")):
-                tally.check("%s, %s" % (name, what), ran(os.path.join(tree, name), *arguments), (0, EXPECTED))
+                tally.check("%s, %s" % (name, what), ran(os.path.join(tree, name), *arguments), (0, expected))
 
 
 def unpacked(tally, archive, place):

@@ -10,6 +10,7 @@ from fts4box import ARCHIVE
 from tally import Tally
 
 EXPECTED = "docs 1\n7\n"
+SHEET = "rows 4\npassed 1\n7\nfailed 1\n8\nsilent 1\n9\nnone 1\n"
 WARNINGS = ["-Wall", "-Wextra", "-Werror"]
 EDITIONS = ("2021", "2024")
 CPLUSPLUS = '#include "fts4box.h"\nint main() { uint64_t second; return fts4_check(nullptr, 0, 3, &second) == FTS4_LEAF ? 0 : 1; }\n'
@@ -32,12 +33,12 @@ def main():
         program, source = os.path.join(folder, "program"), os.path.join(folder, "header.cc")
         with open(source, "w", encoding="ascii") as f:
             f.write(CPLUSPLUS)
-        c_example, rust_example = os.path.join(EXAMPLES, "search.c"), os.path.join(EXAMPLES, "search.rs")
+        c_examples, rust_example = (("search.c", EXPECTED), ("verdict.c", SHEET)), os.path.join(EXAMPLES, "search.rs")
         linked = ["-L", os.path.dirname(ARCHIVE), "-l", "static=fts4box"]
-        commands = [
-            ("search.c", ["cc", *WARNINGS, "-std=c99", "-Wpedantic", "-I", INCLUDE, "-o", program, c_example, ARCHIVE], EXPECTED),
-            ("the header as C++", ["g++", *WARNINGS, "-Wpedantic", "-I", INCLUDE, "-o", program, source, ARCHIVE], ""),
-        ]
+        commands = [("the header as C++", ["g++", *WARNINGS, "-Wpedantic", "-I", INCLUDE, "-o", program, source, ARCHIVE], "")]
+        for name, expected in c_examples:
+            command = ["cc", *WARNINGS, "-std=c99", "-Wpedantic", "-I", INCLUDE, "-o", program, os.path.join(EXAMPLES, name), ARCHIVE]
+            commands.append((name, command, expected))
         for edition in EDITIONS:
             command = ["rustc", "--edition", edition, "-D", "warnings", "-o", program, rust_example, *linked]
             commands.append(("search.rs in edition " + edition, command, EXPECTED))

@@ -8,6 +8,7 @@ import sys
 
 sys.dont_write_bytecode = True
 
+import collections
 import itertools
 import random
 import sqlite3
@@ -723,6 +724,183 @@ def test_pairs():
     check("3 before 4", search([P12, b""], b"reply", 0, [(1, 0), (0, 0)]), (3, 1, []))
 
 
+# The verdict sheet (document 02, section 13)
+
+PASS, FAIL, SILENT = b"outcome:reply NOT outcome:late NOT outcome:timeout", b"outcome:late", b"outcome:timeout"
+NO_COUNTS = 0, 0, 0, 0
+
+
+def verdict(run, leaves, queries, room_lens=(100, 100, 100), pairs=None, names=NAMES):
+    """A sheet over the three columns of P12; without pairs the leaves come newest first."""
+    if pairs is None:
+        pairs = [(place, 0) for place in range(len(leaves))]
+    levels, indexes = [level for level, _ in pairs], [index for _, index in pairs]
+    return ref.verdict(*run, b"".join(names), ends_of(names), b"".join(leaves), ends_of(leaves), levels, indexes, *queries, *room_lens)
+
+
+def not_given(number, beside, room_lens=(100, 100, 100)):
+    """A refused sheet: zeros everywhere but in its two numbers."""
+    return number, beside, NO_COUNTS, [[0] * room_len for room_len in room_lens]
+
+
+def sheet_of(run, lists, room_lens=(100, 100, 100)):
+    """The sheet of three lists that all fit, by going through the rows of the run one by one."""
+    first, last = run
+    counts = [0, 0, 0, 0]
+    for docid in range(first, last + 1):
+        said = [place for place, listed in enumerate(lists) if docid in listed]
+        if len(said) > 1:
+            return not_given(7, docid, room_lens)
+        counts[said[0] if said else 3] += 1
+    return 0, last - first + 1, tuple(counts), [listed + [0] * (room_len - len(listed)) for listed, room_len in zip(lists, room_lens)]
+
+
+def words_leaf(lists):
+    """A leaf in which each word stands in these rows, at the first place of the first column."""
+    return ref.encode_leaf([(word, [(docid, [(0, [0])]) for docid in sorted(docids)]) for word, docids in sorted(lists.items()) if docids])
+
+
+def test_verdict():
+    """The certificate, the run, and what is counted."""
+    silent = [7 * n for n in range(1, 41)]
+    rows = [leaf_of(docid, b"n1", b"t", b"no reply, timeout" if docid in silent else b"reply") for docid in range(1, 313)]
+    lists = collections.defaultdict(list)
+    for row in rows:
+        for word, entries, _, _ in ref.parse_leaf(row, 3):
+            lists[word] += entries
+    leaf = ref.encode_leaf(sorted(lists.items()))
+    rooms = 312, 0, 40
+    passes = [docid for docid in range(1, 313) if docid not in silent]
+    check("certificate", verdict((1, 312), [leaf], (PASS, FAIL, SILENT), rooms), (0, 312, (272, 0, 40, 0), [passes + [0] * 40, [], silent]))
+    check("certificate", verdict((1, 400), [leaf], (PASS, FAIL, SILENT), rooms)[:3], (0, 400, (272, 0, 40, 88)))
+    check("certificate", verdict((1, 312), [leaf[:-1]], (PASS, FAIL, SILENT), rooms), not_given(3, 0, rooms))
+    check("a pass query that takes silence too", verdict((1, 312), [leaf], (b"outcome:reply", FAIL, SILENT), rooms), not_given(7, 7, rooms))
+    check("no leaf", verdict((5, 9), [], (b"a", b"b", b"c"), (2, 0, 1)), (0, 5, (0, 0, 0, 5), [[0, 0], [], [0]]))
+
+    row = words_leaf({b"a": [3], b"b": [4], b"c": [LEAST_DOCID, TOP_DOCID]})
+    abc = b"a", b"b", b"c"
+    rooms = [[3] + [0] * 99, [4] + [0] * 99, [LEAST_DOCID, TOP_DOCID] + [0] * 98]
+    for run, counts in (
+        ((3, 3), (1, 0, 0, 0)), ((4, 4), (0, 1, 0, 0)), ((5, 5), (0, 0, 0, 1)), ((3, 4), (1, 1, 0, 0)), ((2, 5), (1, 1, 0, 2)), ((-4091, 4), (1, 1, 0, 4094)),
+        ((LEAST_DOCID, LEAST_DOCID), (0, 0, 1, 0)), ((LEAST_DOCID, LEAST_DOCID + 4095), (0, 0, 1, 4095)), ((LEAST_DOCID + 1, LEAST_DOCID + 2), (0, 0, 0, 2)),
+        ((TOP_DOCID, TOP_DOCID), (0, 0, 1, 0)), ((TOP_DOCID - 4095, TOP_DOCID), (0, 0, 1, 4095)), ((TOP_DOCID - 2, TOP_DOCID - 1), (0, 0, 0, 2)),
+    ):
+        check("run %s" % (run,), verdict(run, [row], abc), (0, sum(counts), counts, rooms))
+    for run in (
+        (4, 3), (0, -1), (TOP_DOCID, LEAST_DOCID), (0, LEAST_DOCID), (1, 4097), (-4092, 4), (LEAST_DOCID, LEAST_DOCID + 4096), (TOP_DOCID - 4096, TOP_DOCID),
+        (LEAST_DOCID, TOP_DOCID), (LEAST_DOCID, -1), (LEAST_DOCID, 0), (0, TOP_DOCID), (-1, TOP_DOCID),
+    ):
+        check("no run %s" % (run,), verdict(run, [row], abc, (3, 0, 1)), not_given(1, 0, (3, 0, 1)))
+
+
+def test_two_verdicts():
+    """7: each pair of lists and all three, at the first row, at the last, inside, and not outside; beside it the smallest."""
+    words = b"a", b"b", b"c"
+    for size in (2, 3):
+        for chosen in itertools.combinations(words, size):
+            for docid in range(-5, 6):
+                lists = {word: [docid] if word in chosen else [word[0]] for word in words}
+                got = verdict((-2, 3), [words_leaf(lists)], words)
+                check("%s at %d" % (chosen, docid), got, sheet_of((-2, 3), [sorted(lists[word]) for word in words]))
+                check("%s at %d" % (chosen, docid), got[0], 7 if -2 <= docid <= 3 else 0)
+    for lists, docid in (
+        ({b"a": [-2, 1], b"b": [1, 2], b"c": [-2, 2]}, -2), ({b"a": [0, 1], b"b": [1], b"c": [0]}, 0), ({b"a": [3], b"b": [-1, 3], b"c": [-1]}, -1),
+        ({b"a": [-9, 2], b"b": [-9, 2], b"c": [-9]}, 2), ({b"a": [1, 3], b"b": [3, 9], b"c": [9]}, 3), ({b"a": [-1, 1], b"b": [-1, 1], b"c": []}, -1),
+    ):
+        check("the smallest", verdict((-2, 3), [words_leaf(lists)], words), not_given(7, docid))
+    for docid in (LEAST_DOCID, TOP_DOCID):
+        run = max(docid - 9, LEAST_DOCID), min(docid + 9, TOP_DOCID)
+        check("at an end", verdict(run, [words_leaf({b"a": [docid], b"c": [docid]})], words), not_given(7, docid))
+
+
+def faults():
+    """Each fault in the order in which it is judged: its name, what it changes of a sound sheet, and the two numbers that it earns by itself."""
+    # of these rows too one is in two lists
+    yield "run", {"run": (1, 4097)}, (1, 0)
+    yield "names", {"names": [b"a", b"A", b"outcome"]}, (1, 0)
+    for place, word in enumerate((b"a", b"b", b"c")):
+        yield "query %d" % place, {"query %d" % place: word + b" AND"}, (2, 0)
+        if place == 0:
+            yield "leaf", {"leaf": True}, (3, 1)
+        yield "room %d" % place, {"room %d" % place: 0}, (4, 1 if place else 2)
+    yield "two", {"run": (1, 9)}, (7, 5)
+
+
+def with_faults(changes):
+    """A sheet that is sound but for these changes. Row 5 is in two lists; it is outside the sound run."""
+    lists = {b"a": [1, 5], b"b": [5], b"c": [2]}
+    leaves = [words_leaf(lists), b"" if changes.get("leaf") else P12]
+    queries = [changes.get("query %d" % place, word) for place, word in enumerate((b"a", b"b", b"c"))]
+    room_lens = [changes.get("room %d" % place, 3) for place in range(3)]
+    return verdict(changes.get("run", (1, 4)), leaves, queries, room_lens, names=changes.get("names", NAMES)), room_lens
+
+
+def test_verdict_order():
+    """Each fault alone, and the first of each two: the run, then all of the pass search, of the fail search, of the silent search, then 7."""
+    check("no fault", with_faults({})[0], (0, 4, (1, 0, 1, 2), [[1, 5, 0], [5, 0, 0], [2, 0, 0]]))
+    listed = list(faults())
+    for place, (what, change, numbers) in enumerate(listed):
+        got, room_lens = with_faults(change)
+        check(what, got, not_given(*numbers, room_lens))
+        for other, more, _ in listed[place + 1:]:
+            got, room_lens = with_faults({**more, **change})
+            check("%s before %s" % (what, other), got, not_given(*numbers, room_lens))
+
+
+def test_verdict_exhaustive(rng):
+    """Random sheets against the rows of the run, each asked by trying every place."""
+    answers = collections.Counter()
+    for _ in range(120):
+        leaves = [ref.encode_leaf(random_leaf(rng, 3, True)) for _ in range(rng.randrange(0, 5))]
+        grid = grid_of(leaves, 3)
+        for _ in range(12):
+            queries = sheet_queries(rng, [b"a", b"b", b"ab", b"ba"])
+            trees = [ref.read_query(query, NAMES) for query in queries]
+            if any(tree is None for tree in trees):
+                continue
+            run = sheet_run(rng)
+            lists = [sorted(docid for docid, row in grid.items() if holds(row, tree)) for tree in trees]
+            expected = sheet_of(run, lists)
+            check("verdict %s %s" % (run, queries), verdict(run, leaves, queries), expected)
+            counted(answers, run, lists, expected)
+    enough("sheets by rows", answers)
+
+
+def sheet_queries(rng, vocabulary):
+    """Three queries, mostly of words that many rows have: in two of three cases such that no row satisfies two of them."""
+    words = [word + b"*" for word in rng.sample(vocabulary, 4)]
+    kinds = [random_query(rng, vocabulary, NAMES, 0), *words, b"node:%s OR outcome:%s" % (words[0], words[1]), b"outcome:%s OR sent:%s" % (words[2], words[3])]
+    one, other, third = rng.sample(kinds, 3)
+    if rng.randrange(3) == 0:
+        return one, other, third
+    parts = [b"(%s) NOT (%s)" % (one, other), b"(%s) NOT (%s)" % (other, one), b"(%s) AND (%s)" % (one, other)]
+    return rng.sample(parts, 3)
+
+
+def sheet_run(rng):
+    """A run of which most rows of a small table are, or one of few rows."""
+    first = rng.randrange(-8, 0) if rng.randrange(4) else rng.randrange(0, 6)
+    return first, first + rng.choice((0, 3, 9, 12, 12, 4095))
+
+
+def counted(answers, run, lists, expected):
+    number, beside, counts, _ = expected
+    answers["compared"] += 1
+    answers[number] += 1
+    answers["all four counts"] += number == 0 and min(counts) > 0
+    answers["docids outside"] += number == 0 and any(not run[0] <= docid <= run[1] for listed in lists for docid in listed)
+    answers["7 below 0"] += number == 7 and beside < 0
+
+
+def enough(what, answers):
+    """A twentieth of the sheets at least of each kind."""
+    few = [kind for kind in (0, 7, "all four counts", "docids outside", "7 below 0") if answers[kind] * 20 < answers["compared"]]
+    check("%s: %s" % (what, dict(answers)), (few, answers["compared"] > 500), ([], True))
+
+
+# The program
+
+
 def test_program():
     """The program's output."""
     check("program", ref.one_search(b"reply", P12), "docs 1\n7\n")
@@ -757,6 +935,7 @@ def test_any_input(rng):
         tree = ref.read_query(junk, NAMES)
         check("junk", found([P12], junk) == (2, 0), tree is None)
         check("junk", ref.search(junk, ends, junk, ends, ends, ends[::-1], junk, 1)[0] in range(5), True)
+        check("junk", verdict((6, 8), [P12], (junk, junk[1:], junk[2:]))[0] in (0, 2, 7), True)
         check("junk", ref.write_leaf(1, junk, ends, 9)[0] in (0, 1, 4), True)
         check("junk", ref.lookup(junk, 3, junk)[0] in (0, 1, 3), True)
 
@@ -977,6 +1156,45 @@ def test_sqlite_levels(rng, vocabulary):
           % (sqlite3.sqlite_version, compared, len(levels_of), levels_of.count(2), sum(n > 2 for n in levels_of), other))
 
 
+def some_run(rng, lists):
+    """A run that begins or ends at a docid of the lists, wherever it is."""
+    docid, rows = rng.choice([docid for listed in lists for docid in listed] or [0]), rng.choice((1, 2, 4096))
+    return (max(docid - rows + 1, LEAST_DOCID), docid) if rng.randrange(2) else (docid, min(docid + rows - 1, TOP_DOCID))
+
+
+def counted_by_sqlite(connection, query, run):
+    """How many rows of the run SQLite finds."""
+    rows = connection.execute("select count(*) from t where t match ? and docid between ? and ?", [query.decode(), *run])
+    return rows.fetchone()[0]
+
+
+def test_sqlite_verdict(rng, vocabulary):
+    """Three MATCH queries and their rows in the run counted by SQLite give the same sheet."""
+    answers = collections.Counter()
+    for _ in range(30):
+        connection = new_table()
+        change_table(rng, connection, vocabulary, rng.randrange(4, 12), chance=0.3)
+        leaves = table_leaves(connection)
+        for _ in range(40 if leaves is not None else 0):
+            queries = sheet_queries(rng, vocabulary)
+            asked = [differences.written_out(query) for query in queries]
+            lists = [sqlite_docids(connection, query) for query in asked]
+            if any(ref.read_query(query, NAMES) is None for query in queries) or any(listed is None for listed in lists):
+                continue
+            run = sheet_run(rng) if rng.randrange(8) else some_run(rng, lists)
+            rows = run[1] - run[0] + 1
+            counts = [counted_by_sqlite(connection, query, run) for query in asked]
+            shared = [docid for docid, times in collections.Counter(itertools.chain(*lists)).items() if times > 1 and run[0] <= docid <= run[1]]
+            expected = not_given(7, min(shared)) if shared else (0, rows, (*counts, rows - sum(counts)), [listed + [0] * (100 - len(listed)) for listed in lists])
+            lent, pairs = lent_in_some_order(rng, leaves)
+            check("sqlite verdict %s %s" % (run, queries), verdict(run, lent, queries, pairs=pairs), expected)
+            counted(answers, run, lists, expected)
+        connection.close()
+    enough("sheets by SQLite", answers)
+    print("SQLite %s: %d sheets compared, %d accepted, %d with all four counts, %d with docids outside the run, %d refused for a row in two lists"
+          % (sqlite3.sqlite_version, answers["compared"], answers[0], answers["all four counts"], answers["docids outside"], answers[7]))
+
+
 def test_sqlite(rng):
     """Comparisons with SQLite, which must have the enhanced syntax."""
     enhanced = sqlite_has_enhanced_syntax()
@@ -987,6 +1205,7 @@ def test_sqlite(rng):
     test_sqlite_writer(rng, vocabulary)
     test_sqlite_search(rng, vocabulary)
     test_sqlite_levels(rng, vocabulary)
+    test_sqlite_verdict(rng, vocabulary)
 
 
 def main():
@@ -1006,6 +1225,10 @@ def main():
     test_ages()
     test_pairs()
     test_search_exhaustive(random.Random(SEED))
+    test_verdict()
+    test_two_verdicts()
+    test_verdict_order()
+    test_verdict_exhaustive(random.Random(SEED))
     test_program()
     test_any_input(random.Random(SEED))
     test_time()

@@ -10,7 +10,7 @@ import lending
 import paths
 import sqlite_differences as differences
 from box import Box
-from fts4box import joined, search
+from fts4box import joined, search, verdict
 from tally import Tally
 
 PAGE = os.path.join(paths.ROOT, "docs", "REFERENCE.md")
@@ -24,6 +24,7 @@ REFUSED_QUERY = 2, 0, []
 PIECE = re.compile(r"`([^`]+)`(?: × (\d+))?|(,)|\((nothing)\)")
 # a leaf and its pair
 LENT = re.compile(r"([a-z ]+) (\d+)/(\d+)(?:, |$)")
+RUN = re.compile(r"(-?\d+) to (-?\d+)")
 
 
 class Page:
@@ -124,15 +125,33 @@ def change(tally, library, box, page):
             tally.check("%r in %s" % (query, row[0]), answer, (0, len(docids), docids))
 
 
-def query_tables(tally, library, box, page):
+def lent_rows(box, page):
+    """The rows of the page, each in a leaf of its own."""
     rows = page.table("| docid | node | sent | outcome |", 0)
     leaves = [folders.written(box, int(row[0]), [text.encode() for text in row[1:]]) for row in rows]
-    lent = leaves, [0] * len(leaves), list(range(len(leaves)))
+    return leaves, [0] * len(leaves), list(range(len(leaves)))
+
+
+def query_tables(tally, library, box, page):
+    lent = lent_rows(box, page)
     for query, (_, cell) in page.queries("| query | what it means | docids |"):
         docids = numbers(cell)
         tally.check("accepted %.60r" % query, search(library, NAMES, *lent, query, SEARCH_ROOM), (0, len(docids), docids))
     for query, _ in page.queries("| query | why |"):
         tally.check("refused %.60r" % query, search(library, NAMES, *lent, query, SEARCH_ROOM), REFUSED_QUERY)
+
+
+def sheets(tally, library, box, page):
+    lent = lent_rows(box, page)
+    for run, *cells, number, beside, counts, _ in page.table("| run | pass | fail | silent | answer | beside | counts | |", 0):
+        first, last = RUN.fullmatch(run).groups()
+        asked = [queries(cell) for cell in cells]
+        tally.check("queries of %s" % run, [len(found) for found in asked], [1, 1, 1])
+        answer = verdict(library, int(first), int(last), NAMES, *lent, *(query for (query,) in asked))
+        expected = int(number), int(beside), tuple(numbers(counts))
+        tally.check("sheet of %s, %s" % (run, cells), answer[:3], expected)
+        tally.check("rows of %s, %s" % (run, cells), [len(docids) for docids in answer[3]], numbers(counts)[:3])
+        tally.check("sum of %s, %s" % (run, cells), sum(expected[2]), expected[1] if number == "0" else 0)
 
 
 def sqlite_tables(tally, library, box, page):
@@ -171,6 +190,9 @@ def shapes(tally, box):
             ([], []), ([0], [0]), ([0, 1], [0]), ([0], [0, 1]), ([0, 1, 2], [0, 0]), ([0, 0], [0, 1, 2]), ([0, 1, 2], [0, 1, 2]), ([3, 3], [4, 4]),
         )],
     }
+    queries_and_rooms = b"a", b"b", b"c", 0, 0, 0
+    runs = [(1, 0), (0, -1), (1, 4097), (-4096, 0), (2**63 - 1, -2**63), (-2**63, 2**63 - 1)]
+    asked["verdict"] = [(*run, *names, *lent, *queries_and_rooms) for run in runs] + [(1, 9, *case[:6], *queries_and_rooms) for case in asked["search"]]
     for name, cases in asked.items():
         for case in cases:
             tally.check("shape of %s %.80r" % (name, case), getattr(box, name)(*case)[:2], (1, 0))
@@ -202,6 +224,7 @@ def main():
     posting_lists(tally, box, page)
     change(tally, library, box, page)
     query_tables(tally, library, box, page)
+    sheets(tally, library, box, page)
     sqlite_tables(tally, library, box, page)
     shapes(tally, box)
     largest(tally, box, page)

@@ -4,9 +4,10 @@
     python3 tests/test_sqlite.py [TABLES [SEED]]
 
 The leaves come from tools/export_leaves.py, each with its level and index, and are lent in another order for each query. What both accept is
-compared exactly; what is left out stands in tests/sqlite_differences.py.
+compared exactly; what is left out stands in tests/sqlite_differences.py. A verdict sheet is held against three MATCH queries and SQLite's own counts.
 """
 import collections
+import itertools
 import os
 import random
 import sqlite3
@@ -24,7 +25,7 @@ from box import Box
 from fts4box import joined
 from tally import Tally
 
-TABLES, QUERIES, SEED = 100, 100, 20267
+TABLES, QUERIES, SHEETS, SEED = 100, 100, 20, 20267
 ROOM = 1024
 
 
@@ -107,6 +108,44 @@ def compare(rng, tally, counts, box, base, names, leaves):
         counts["of these list docids"] += alike and bool(listed)
 
 
+def some_run(rng, base):
+    """A run that begins at a row or a little before it."""
+    docids = [docid for (docid,) in base.execute("select docid from t")]
+    first = max(rng.choice(docids or [0]) - rng.choice((0, 0, 4, 20)), generated.LEAST_DOCID)
+    return first, min(first + rng.choice((0, 5, 40, reference.MAX_RUN_ROWS - 1)), generated.TOP_DOCID)
+
+
+def sheet_by_sqlite(base, queries, run):
+    """The sheet's answer by three MATCH queries, their rows in the run counted by SQLite; None where it refuses a query."""
+    lists = [match(base, query) for query in queries]
+    if None in lists:
+        return None
+    first, last = run
+    shared = {docid for one, other in itertools.combinations(lists, 2) for docid in one if docid in other and first <= docid <= last}
+    if shared:
+        return reference.TWO_VERDICTS, min(shared), (0, 0, 0, 0), [[0] * ROOM] * 3
+    counts = [
+        base.execute("select count(*) from t where t match ? and docid between ? and ?", (query.decode(), first, last)).fetchone()[0] for query in queries
+    ]
+    rows = last - first + 1
+    return 0, rows, (*counts, rows - sum(counts)), [listed + [0] * (ROOM - len(listed)) for listed in lists]
+
+
+def compare_sheets(rng, tally, counts, box, base, names, leaves):
+    for _ in range(SHEETS):
+        queries, run = generated.some_sheet(rng), some_run(rng, base)
+        trees = [reference.read_query(query, names) for query in queries]
+        theirs = sheet_by_sqlite(base, [differences.written_out(query) for query in queries], run)
+        if None in trees or theirs is None and any(map(differences.may_be_too_deep, trees)):
+            counts["sheets left out"] += 1
+            continue
+        answer = box.verdict(*run, *joined(names), *in_some_order(rng, leaves), *queries, ROOM, ROOM, ROOM)
+        tally.check("sheet %s %s" % (run, queries), answer, theirs)
+        counts["sheets"] += 1
+        counts["sheets with all four counts"] += min(answer[2]) > 0
+        counts["sheets with a row in two lists"] += answer[0] == reference.TWO_VERDICTS
+
+
 def known(rng, tally, box, base):
     """Each known difference is one: it leaves the list once it is none."""
     for docid, text in ((1, "x"), (2, "y x")):
@@ -142,7 +181,9 @@ def main(words):
             counts["tables"] += 1
             counts["with several segments"] += len(export.leaves) > 1
             counts["with two levels"] += base.execute("select count(distinct level) from t_segdir").fetchone()[0] > 1
-            compare(rng, tally, counts, box, base, [name.encode() for name in export.names], export.leaves)
+            names = [name.encode() for name in export.names]
+            compare(rng, tally, counts, box, base, names, export.leaves)
+            compare_sheets(rng, tally, counts, box, base, names, export.leaves)
             base.close()
             os.remove(path)
     print("SQLite %s: " % sqlite3.sqlite_version + ", ".join("%d %s" % (n, what) for what, n in counts.items()))
@@ -152,6 +193,9 @@ def main(words):
     ):
         if counts[what] == 0 or counts[what] * least < counts["compared"]:
             tally.fail("too few queries " + what)
+    for what in ("sheets with all four counts", "sheets with a row in two lists"):
+        if counts[what] == 0 or counts[what] * 16 < counts["sheets"]:
+            tally.fail("too few " + what)
     for what in ("with several segments", "with two levels"):
         if counts[what] == 0 or counts[what] * 4 < tables:
             tally.fail("too few tables " + what)

@@ -1,6 +1,6 @@
-"""The five calls of libfts4box from Python, with ctypes: the static library is made a shared one in a temporary folder.
+"""The six calls of libfts4box from Python, with ctypes: the static library is made a shared one in a temporary folder.
 
-`search` is the plain way to ask; the tests place their own buffers.
+`search` and `verdict` are the plain way to ask; the tests place their own buffers.
 """
 import ctypes
 import os
@@ -18,8 +18,13 @@ CALLS = {
     "fts4_deciding": [PTR, SIZE, PTR, SIZE, U32, PTR, SIZE, I64, PTR, PTR, PTR],
     "fts4_write": [I64, PTR, SIZE, PTR, SIZE, PTR, SIZE, PTR],
     "fts4_search": [PTR, SIZE, PTR, SIZE, PTR, SIZE, PTR, SIZE, PTR, SIZE, PTR, SIZE, PTR, SIZE, PTR, SIZE, PTR],
+    "fts4_verdict": [
+        I64, I64, PTR, SIZE, PTR, SIZE, PTR, SIZE, PTR, SIZE, PTR, SIZE, PTR, SIZE, PTR, SIZE, PTR, SIZE, PTR, SIZE, PTR, SIZE, PTR, SIZE, PTR, SIZE,
+        PTR, PTR, PTR, PTR, PTR,
+    ],
 }
 ACCEPTED = 0
+LEAST_DOCID, LARGEST_DOCID = -2**63, 2**63 - 1
 # docids that any search has room in: an entry with a position takes at least 3 of the 65,536 bytes
 SEARCH_ROOM = 65536 // 3
 
@@ -46,20 +51,13 @@ def load(archive=ARCHIVE):
         shared = os.path.join(folder, "libfts4box.so")
         made_shared(archive, shared)
         library = ctypes.CDLL(shared)
+    # arguments go by position and an archive has no version: one before 1.6 is told by the call that it lacks
+    if any(not hasattr(library, name) for name in CALLS):
+        raise NoLibrary("%s is of another version than these tools: build it anew with `rt staticlib fts4box`" % archive)
     for name, arguments in CALLS.items():
         call = getattr(library, name)
         call.argtypes, call.restype = arguments, U32
-    check_version(library, archive)
     return library
-
-
-def check_version(library, archive):
-    """A library before version 1.5 takes no levels and indexes. Here it would take the empty list of levels for the query, and answer 2; what it then takes
-    for the number to store is the query, which has that much room."""
-    query, room, second = U64(ord("a")), I64(), U64()
-    lists = *lent([b"a"]), *lent([]), *lent_numbers([]), *lent_numbers([])
-    if library.fts4_search(*lists, ctypes.byref(query), 1, ctypes.byref(room), 1, ctypes.byref(second)) != ACCEPTED:
-        raise NoLibrary("%s is of another version than these tools: build it anew with `rt staticlib fts4box`" % archive)
 
 
 def as_bytes(value):
@@ -78,11 +76,19 @@ def joined(parts):
     return b"".join(parts), ends
 
 
-def as_u32(value):
-    """ctypes would take any number, and cut it to 32 bits."""
-    if type(value) is not int or not 0 <= value <= MAX_U32:
-        raise TypeError("a number from 0 to %d is wanted, and %r is none" % (MAX_U32, value))
+def as_number(value, least, most):
+    """ctypes would take any number, and cut it to the bits that it has."""
+    if type(value) is not int or not least <= value <= most:
+        raise TypeError("a number from %d to %d is wanted, and %r is none" % (least, most, value))
     return value
+
+
+def as_u32(value):
+    return as_number(value, 0, MAX_U32)
+
+
+def as_docid(value):
+    return as_number(value, LEAST_DOCID, LARGEST_DOCID)
 
 
 def lent(parts):
@@ -105,3 +111,19 @@ def search(library, names, leaves, levels, indexes, query, room_len=SEARCH_ROOM)
         *lent(names), *lent(leaves), *lent_numbers(levels), *lent_numbers(indexes), text, len(text), room, room_len, ctypes.byref(second)
     )
     return number, second.value, list(room[:second.value]) if number == ACCEPTED else []
+
+
+def verdict(library, first, last, names, leaves, levels, indexes, pass_query, fail_query, silent_query, room_len=SEARCH_ROOM):
+    """The answer's number, the number beside it, the counts (pass, fail, silent, none), and for each of the three lists its docids in the run. What is lent
+    is as for a search; the three rooms have the same length."""
+    queries, rooms = [as_bytes(query) for query in (pass_query, fail_query, silent_query)], [(I64 * room_len)() for _ in range(3)]
+    second, counts = I64(), [U64() for _ in range(4)]
+    slices = [part for query in queries for part in (query, len(query))] + [part for room in rooms for part in (room, room_len)]
+    number = library.fts4_verdict(
+        as_docid(first), as_docid(last), *lent(names), *lent(leaves), *lent_numbers(levels), *lent_numbers(indexes), *slices, ctypes.byref(second),
+        *map(ctypes.byref, counts)
+    )
+    told = tuple(count.value for count in counts)
+    # a list stands before the zeros of its room, so that these come too late, also where docid 0 is in the run
+    in_run = [[docid for docid in room if first <= docid <= last][:count] for room, count in zip(rooms, told)]
+    return number, second.value, told, in_run

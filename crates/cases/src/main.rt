@@ -1,12 +1,13 @@
 // The compared cases: each is read from standard input, and what the functions of a layer answer is written as one line.
-// A case is the number of what it asks for, two numbers, two fields with their ends, for a search its levels and indexes, and a short
-// field; those that it does not need are 0 or empty. tests/make_cases.py makes the cases and, with the second program, the lines that are expected.
+// A case is the number of what it asks for, two numbers, two fields with their ends, for a search and a verdict levels and indexes, and a
+// short field; those that it does not need are 0 or empty. A verdict has two more queries and three sizes after them. tests/make_cases.py makes the cases and, with the second program, the lines that are expected.
 mod documents;
 mod exchange;
 mod ground;
 mod leaves;
 mod queries;
 mod searches;
+mod verdicts;
 
 // What a case asks for, as in tests/case_writer.py; 0 ends the input.
 const READ: u64 = 1;
@@ -32,6 +33,8 @@ const QUERY: u64 = 10;
 const DOCUMENT: u64 = 11;
 
 const SEARCH: u64 = 12;
+
+const VERDICT: u64 = 13;
 
 const MAX_CASES: usize = 1000000;
 
@@ -96,24 +99,46 @@ fn with_short<'a>(
     }
 }
 
-// A case of SEARCH has levels and indexes before the short field.
-fn with_pairs(n: u64, first: &[u8], first_ends: &[u32], second: &[u8], second_ends: &[u32]) {
+// A case of SEARCH or VERDICT has levels and indexes before the short field.
+fn with_pairs(
+    kind: u64,
+    n: u64,
+    m: u64,
+    first: &[u8],
+    first_ends: &[u32],
+    second: &[u8],
+    second_ends: &[u32],
+) {
     let mut levels = [0u32; MAX_ENDS];
     let level_count = exchange::ends(&mut levels);
     let mut indexes = [0u32; MAX_ENDS];
     let index_count = exchange::ends(&mut indexes);
     let mut short = [0u8; MAX_SHORT];
     let size = exchange::field(&mut short);
-    searches::search(
-        first,
-        first_ends,
-        second,
-        second_ends,
-        &levels[0..level_count],
-        &indexes[0..index_count],
-        &short[0..size],
-        n as usize,
-    );
+    if kind == SEARCH {
+        searches::search(
+            first,
+            first_ends,
+            second,
+            second_ends,
+            &levels[0..level_count],
+            &indexes[0..index_count],
+            &short[0..size],
+            n as usize,
+        );
+    } else {
+        verdicts::verdict(
+            exchange::signed_of(n),
+            exchange::signed_of(m),
+            first,
+            first_ends,
+            second,
+            second_ends,
+            &levels[0..level_count],
+            &indexes[0..index_count],
+            &short[0..size],
+        );
+    }
 }
 
 fn with_second(kind: u64, n: u64, m: u64, first: &[u8], first_ends: &[u32]) {
@@ -121,8 +146,16 @@ fn with_second(kind: u64, n: u64, m: u64, first: &[u8], first_ends: &[u32]) {
     let size = exchange::field(&mut second);
     let mut ends = [0u32; MAX_ENDS];
     let count = exchange::ends(&mut ends);
-    if kind == SEARCH {
-        with_pairs(n, first, first_ends, &second[0..size], &ends[0..count]);
+    if SEARCH <= kind {
+        with_pairs(
+            kind,
+            n,
+            m,
+            first,
+            first_ends,
+            &second[0..size],
+            &ends[0..count],
+        );
     } else {
         with_short(kind, n, m, first, first_ends, &second[0..size]);
     }

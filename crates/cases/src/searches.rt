@@ -37,7 +37,7 @@ fn second(answer: Answer) -> usize
 }
 
 // The docids, each as its 64 bits.
-fn say_docids(room: &[i64], n: usize) {
+pub(crate) fn say_docids(room: &[i64], n: usize) {
     let mut i: usize = 0;
     while i < n {
         if i < room.len() {

@@ -91,3 +91,61 @@ room-gives n need k m a b d = not-given k (roomRefusal n need ∷ []) (numbers 0
 pub swap-tail : (hs fs gs : List Refusal) (a b m : Numbers) → (FirstDue fs a m → ⊥) → FirstDue (hs ++ fs) a m → FirstDue (hs ++ gs) b m
 swap-tail [] fs gs a b m n d = absurd (n d)
 swap-tail (h ∷ hs) fs gs a b m n d = ⊎-elim inl (λ g. inr (g .0, swap-tail hs fs gs a b m n (g .1))) d
+
+-- ---- joined lists: which of the two gives the numbers
+
+module _ (gs : List Refusal) (b m : Numbers) where
+  -- a list that does not accept gives them, whatever follows
+  pub refused-first : (fs : List Refusal) (a : Numbers) → (m ≡ a → ⊥) → FirstDue fs a m → FirstDue (fs ++ gs) b m
+  refused-first [] a n d = absurd (n d)
+  refused-first (f ∷ fs) a n d = ⊎-elim inl (λ h. inr (h .0, refused-first fs a n (h .1))) d
+
+  -- a list that is passed lets the next give them
+  pub passed-first : (fs : List Refusal) → AllPassed fs → FirstDue gs b m → FirstDue (fs ++ gs) b m
+  passed-first [] p d = d
+  passed-first (f ∷ fs) p d = inr (p .0, passed-first fs (p .1) d)
+
+  -- a number that a list lacks comes from the next, and the list is passed
+  pub behind : (fs : List Refusal) → Lacks (m .number) fs → FirstDue (fs ++ gs) b m → AllPassed fs × FirstDue gs b m
+  behind [] l d = (tt, d)
+  behind (f ∷ fs) l d =
+      ⊎-elim
+      (λ h. absurd (l .0 (sym (ap (λ (q : Numbers). q .number) (h .1)))))
+      (λ h. let r = behind fs (l .1) (h .1) in ((h .0, r .0), r .1))
+      d
+
+  -- where none of a list can be due the next gives them
+  pub past-passed : (fs : List Refusal) → Exclusive fs → AllPassed fs → FirstDue (fs ++ gs) b m → FirstDue gs b m
+  past-passed [] x p d = d
+  past-passed (f ∷ fs) x p d = ⊎-elim (λ h. absurd (x .0 (h .0) (p .0))) (λ h. past-passed fs (x .1) (p .1) (h .1)) d
+
+-- a number that the whole list lacks is accepted
+pub lacks-passed : (fs : List Refusal) (a m : Numbers) → Lacks (m .number) fs → FirstDue fs a m → AllPassed fs
+lacks-passed [] a m l d = tt
+lacks-passed (f ∷ fs) a m l d =
+    ⊎-elim
+    (λ h. absurd (l .0 (sym (ap (λ (q : Numbers). q .number) (h .1)))))
+    (λ h. (h .0, lacks-passed fs a m (l .1) (h .1)))
+    d
+
+pub lacks-append : (k : ℕ) (fs gs : List Refusal) → Lacks k fs → Lacks k gs → Lacks k (fs ++ gs)
+lacks-append k [] gs h l = l
+lacks-append k (f ∷ fs) gs h l = (h .0, lacks-append k fs gs (h .1) l)
+
+-- two joined lists with the same front: the same numbers, or the front is passed
+pub same-front : (hs fs gs : List Refusal) (a b m n : Numbers) → Exclusive hs → FirstDue (hs ++ fs) a m → FirstDue (hs ++ gs) b n
+    → (m ≡ n) ⊎ (AllPassed hs × FirstDue fs a m × FirstDue gs b n)
+same-front [] fs gs a b m n x d e = inr (tt, d, e)
+same-front (h ∷ hs) fs gs a b m n x d e =
+    ⊎-elim
+    (λ p. ⊎-elim (λ q. inl (p .1 ∙ sym (q .1))) (λ q. absurd (x .0 (p .0) (q .0))) e)
+    (λ p.
+    ⊎-elim
+    (λ q. absurd (x .0 (q .0) (p .0)))
+    (λ q. ⊎-elim inl (λ w. inr ((p .0, w .0), w .1, w .2)) (same-front hs fs gs a b m n (x .1) (p .1) (q .1)))
+    e)
+    d
+
+pub exclusive-front : (fs gs : List Refusal) → Exclusive (fs ++ gs) → Exclusive fs
+exclusive-front [] gs x = tt
+exclusive-front (f ∷ fs) gs x = (x .0, exclusive-front fs gs (x .1))

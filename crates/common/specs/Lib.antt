@@ -4,5 +4,6 @@ pub mod Pick
 pub mod Bytes
 pub mod Bits
 pub mod Frame
+pub mod Rooms
 pub mod Refusals
 pub mod Marked

@@ -1,7 +1,9 @@
-// What more than one layer needs: document 01's bounds, and whether two byte strings are the same. The crate also holds the
+// What more than one layer needs: document 01's bounds, whether two byte strings are the same, and clearing a room. The crate also holds the
 // definitions and laws that every layer above cites.
 ghost use mathlib.Core.Path.{_≡_};
+ghost use lib.ListN.{length};
 ghost use Rattle.common.specs.Bytes.{same};
+ghost use Rattle.common.specs.Rooms.{zeros};
 
 // The columns of a table.
 pub const MAX_COLUMNS: usize = 16;
@@ -30,4 +32,15 @@ pub fn is_same(s: &[u8], t: &[u8]) -> bool
         i += 1;
     }
     true
+}
+
+// Every place of the room becomes 0.
+pub fn clear(room: &mut [i64])
+    ensures { λ _. ⌜ now (room .exit) ≡ zeros (length (now (room .entry))) ⌝ }
+{
+    let mut i: usize = 0;
+    while i < room.len() {
+        room[i] = 0;
+        i += 1;
+    }
 }

@@ -56,6 +56,13 @@ docid-in-range key l =
     (λ h. subst IsDocid (sym (docid-below key h)) (omega arith))
     (λ h. subst IsDocid (sym (docid-above key h)) (omega arith))
 
+-- it fits in a place of 64 bits
+pub docid-fits : (key : ℕ) → key < docidLimit → SFits w64 (docidOf key)
+docid-fits key l =
+    split key zeroKey
+    (λ h. subst (SFits w64) (sym (docid-below key h)) (record { sfits = omega arith }))
+    (λ h. subst (SFits w64) (sym (docid-above key h)) (record { sfits = omega arith }))
+
 pub key-in-range : (docid : ℤ) → IsDocid docid → keyOf docid < docidLimit
 key-in-range (pos n) h = omega arith
 key-in-range (negsuc n) h = omega arith

@@ -7,13 +7,13 @@ use mathlib.Core.List.{List, [], _∷_, _++_}
 use lib.IntN.{ℤ, pos}
 use lib.ListN.{length, set, length-append, length-replicate, length-set}
 use Rattle.common.specs.Pick.{pick}
+use Rattle.common.specs.Rooms.{zeros}
 use Rattle.common.proofs.Cases.{bool-case}
 use Rattle.doclist.specs.Docid.{docidLimit, docidOf}
 use Rattle.doclist.specs.Doclist.{Rising}
 use Rattle.query.specs.declared.Query.{Query}
 use Rattle.query.specs.Tree.{Tree, treeNodes}
 use Rattle.meaning.specs.Satisfies.{Live, Satisfies}
-use Rattle.meaning.specs.Listing.{zeros}
 use Rattle.chain.specs.Chains.{markWords}
 use Rattle.cursors.specs.Groups.{Group, lastKey, NextIs, rowAt}
 use Rattle.cursors.specs.Arrays.{blockSize, CursorsAre, MinimaAre}

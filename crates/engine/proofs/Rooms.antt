@@ -6,12 +6,9 @@ use mathlib.Core.List.{List, [], _∷_, _++_, map}
 use lib.IntN.{ℤ, pos}
 use lib.ListN.{length, take, set, replicate, length-replicate}
 use lib.Seq.{take-all}
-use mir.Syntax.{w64}
-use mir.Val.{SFits}
-use Rattle.common.proofs.Cases.{split}
-use Rattle.doclist.specs.Docid.{docidLimit, zeroKey, docidOf}
-use Rattle.doclist.proofs.Docids.{docid-above, docid-below}
-use Rattle.meaning.specs.Listing.{roomWith, zeros}
+use Rattle.common.specs.Rooms.{zeros}
+use Rattle.doclist.specs.Docid.{docidOf}
+use Rattle.meaning.specs.Listing.{roomWith}
 use Rattle.engine.specs.Run.{fitted}
 
 pub fitted-none : (n : ℕ) → fitted n [] ≡ zeros n
@@ -45,10 +42,3 @@ fitted-more (suc n) (e ∷ ds) d =
 -- all of them fit
 pub fitted-all : (n : ℕ) (ds : List ℕ) → length ds ≤ n → fitted n ds ≡ roomWith n ds
 fitted-all n ds h = ap (λ (l : List ℕ). map docidOf l ++ replicate (n - length ds) (pos 0)) (take-all n ds h)
-
--- a docid fits in a place of the room
-pub docid-fits : (key : ℕ) → key < docidLimit → SFits w64 (docidOf key)
-docid-fits key l =
-    split key zeroKey
-    (λ h. subst (SFits w64) (sym (docid-below key h)) (record { sfits = omega arith }))
-    (λ h. subst (SFits w64) (sym (docid-above key h)) (record { sfits = omega arith }))

@@ -10,8 +10,8 @@ ghost use Prim.Native.Nat.{ℕ, _+_, _<_};
 ghost use lib.ListN.{length, set};
 ghost use lib.Bits.{bitAnd};
 ghost use Rattle.common.specs.Pick.{pick};
+ghost use Rattle.common.specs.Rooms.{zeros};
 ghost use Rattle.doclist.specs.Docid.{docidOf};
-ghost use Rattle.meaning.specs.Listing.{zeros};
 ghost use Rattle.meaning.specs.Satisfies.{Live};
 ghost use Rattle.query.specs.Tree.{Tree};
 ghost use Rattle.row.specs.Row.{Hit, RowIs};
@@ -29,17 +29,6 @@ const MAX_BLOCKS: usize = 683;
 
 // No docid is noted after so many; there are fewer entries in the leaves.
 const MAX_COUNT: usize = 0xffff_ffff_ffff_ffff;
-
-// Every place of the room becomes 0.
-pub fn clear(room: &mut [i64])
-    ensures { λ _. ⌜ now (room .exit) ≡ zeros (length (now (room .entry))) ⌝ }
-{
-    let mut i: usize = 0;
-    while i < room.len() {
-        room[i] = 0;
-        i += 1;
-    }
-}
 
 // The docid goes to the place, where the room has that place.
 fn put_docid(room: &mut [i64], at: usize, docid: u64)
@@ -292,7 +281,7 @@ pub fn run(
 ) -> usize
     ensures { λ r. ⌜ Ran query (now (leaves .entry)) (now (ends .entry)) (now (order .entry)) (length (now (room .entry))) r (now (room .exit)) ⌝ }
 {
-    clear(room);
+    common::clear(room);
     let mut docids = [0u64; MAX_CURSORS];
     let mut bodies = [0u16; MAX_CURSORS];
     let mut lasts = [0u16; MAX_CURSORS];

@@ -1,6 +1,6 @@
 -- The calls for C and Rust: each returns document 01's number of its answer and stores the second number, and, for a
 -- lookup, where the part stands. What the answer claims is said by the crates below.
-use Prim.Native.Nat.{ℕ}
+use Prim.Native.Nat.{ℕ, _+_}
 use lib.IntN.{ℤ}
 use lib.ListN.{length}
 use mathlib.Core.Path.{_≡_}
@@ -17,6 +17,10 @@ use Rattle.writer.specs.Answers as writer
 use Rattle.writer.specs.declared.Answer.{Answer}
 use Rattle.search.specs.Search as answers
 use Rattle.search.specs.declared.Answer as listing
+use Rattle.doclist.specs.Docid.{docidOf, keyOf, keyOfBits}
+use Rattle.verdict.specs.Sheet as verdict
+use Rattle.verdict.specs.declared.Sheet.{Sheet}
+use Rattle.verdict.specs.declared.Sheet.the-variants as sheet
 
 -- checking one leaf
 abbrev pub Checked : ℕ → List ℕ → ℕ → ℕ → Type 0
@@ -74,3 +78,70 @@ pub record Found (x : answers.Input) (n : ℕ) (after : List ℤ) (number second
   pub answer : listing.Answer
   pub right : answers.Searched x n answer after
   pub numbers-are : numbers number second ≡ answers.numbersOf answer
+
+-- the signed number of these 64 bits
+abbrev pub signed : ℕ → ℤ
+signed n = docidOf (keyOfBits n)
+
+-- the second number of a sheet: beside 7 the docid
+abbrev pub sheetSecond : Sheet → ℤ
+sheetSecond (sheet.Counted passed failed silent none) = signed (passed + failed + silent + none)
+sheetSecond sheet.Shape = signed 0
+sheetSecond sheet.Query = signed 0
+sheetSecond (sheet.Leaf i) = signed i
+sheetSecond (sheet.Room n) = signed n
+sheetSecond (sheet.Twice d) = d
+
+-- its four counts, which are 0 where it is refused
+abbrev pub passedOf : Sheet → ℕ
+passedOf (sheet.Counted passed failed silent none) = passed
+passedOf sheet.Shape = 0
+passedOf sheet.Query = 0
+passedOf (sheet.Leaf i) = 0
+passedOf (sheet.Room n) = 0
+passedOf (sheet.Twice d) = 0
+
+abbrev pub failedOf : Sheet → ℕ
+failedOf (sheet.Counted passed failed silent none) = failed
+failedOf sheet.Shape = 0
+failedOf sheet.Query = 0
+failedOf (sheet.Leaf i) = 0
+failedOf (sheet.Room n) = 0
+failedOf (sheet.Twice d) = 0
+
+abbrev pub silencedOf : Sheet → ℕ
+silencedOf (sheet.Counted passed failed silent none) = silent
+silencedOf sheet.Shape = 0
+silencedOf sheet.Query = 0
+silencedOf (sheet.Leaf i) = 0
+silencedOf (sheet.Room n) = 0
+silencedOf (sheet.Twice d) = 0
+
+abbrev pub noneOf : Sheet → ℕ
+noneOf (sheet.Counted passed failed silent none) = none
+noneOf sheet.Shape = 0
+noneOf sheet.Query = 0
+noneOf (sheet.Leaf i) = 0
+noneOf (sheet.Room n) = 0
+noneOf (sheet.Twice d) = 0
+
+-- where rows were counted they are those of the run, which is short
+abbrev pub RunCounted : ℤ → ℤ → Sheet → Type 0
+RunCounted first last (sheet.Counted passed failed silent none) =
+    verdict.RunRight (keyOf first) (keyOf last) × (passed + failed + silent + none ≡ verdict.rowCount (keyOf first) (keyOf last))
+RunCounted first last sheet.Shape = Unit {0}
+RunCounted first last sheet.Query = Unit {0}
+RunCounted first last (sheet.Leaf i) = Unit {0}
+RunCounted first last (sheet.Room n) = Unit {0}
+RunCounted first last (sheet.Twice d) = Unit {0}
+
+-- a sheet with rooms of `n`, `m` and `k` numbers, which hold `passes`, `fails` and `silents` when it returns
+pub record Judged (x : verdict.Handed) (n m k : ℕ) (passes fails silents : List ℤ) (number : ℕ) (second : ℤ) (passed failed silenced none : ℕ) : Type 0 where
+  pub sheet : Sheet
+  pub right : verdict.Sheeted x n m k sheet passes fails silents
+  pub number-is : number ≡ verdict.numbersOf sheet .number
+  pub second-is : second ≡ sheetSecond sheet
+  pub passed-are : passed ≡ passedOf sheet
+  pub failed-are : failed ≡ failedOf sheet
+  pub silenced-are : silenced ≡ silencedOf sheet
+  pub none-are : none ≡ noneOf sheet

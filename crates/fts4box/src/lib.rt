@@ -1,15 +1,20 @@
 // The counting box for C and Rust: see include/fts4box.h. A slice is passed as a pointer and a length. Each call returns the
 // number of its answer and stores the second one.
+use doclist::keys;
 use leaf::LeafCheck;
 use lookup::EntryAnswer;
 use lookup::WordAnswer;
+use verdict::Sheet;
 use writer::Answer;
 ghost use mathlib.Core.Path.{_≡_};
 ghost use lib.ListN.{length};
 ghost use Rattle.leaf.specs.Answers.{checkNumbers};
 ghost use Rattle.writer.specs.Answers.{numbersOf};
 ghost use Rattle.search.specs.Search as answers;
-ghost use Rattle.fts4box.specs.Calls.{Checked, LookedUp, Decided, Written, Found, answerStart, entryStart, entryLeaf};
+ghost use Rattle.doclist.specs.Docid.{keyOf};
+ghost use Rattle.verdict.specs.Sheet as verdict;
+ghost use Rattle.verdict.specs.Sheet.{RunRight, rowCount};
+ghost use Rattle.fts4box.specs.Calls.{Checked, LookedUp, Decided, Written, Found, Judged, answerStart, entryStart, entryLeaf, signed, sheetSecond, passedOf, failedOf, silencedOf, noneOf, RunCounted};
 
 const ACCEPTED: u32 = 0;
 
@@ -22,6 +27,8 @@ const LEAF: u32 = 3;
 const ROOM: u32 = 4;
 
 const WORD: u32 = 5;
+
+const TWO_VERDICTS: u32 = 7;
 
 fn check_number(answer: LeafCheck) -> u32
     ensures { λ r. ⌜ r ≡ checkNumbers answer .number ⌝ }
@@ -212,4 +219,177 @@ pub extern "C" fn fts4_search(
     );
     *second = search_second(answer);
     search_number(answer)
+}
+
+fn sheet_number(sheet: Sheet) -> u32
+    ensures { λ r. ⌜ r ≡ verdict.numbersOf sheet .number ⌝ }
+{
+    match sheet {
+        Sheet::Counted {
+            passed: _,
+            failed: _,
+            silent: _,
+            none: _,
+        } => ACCEPTED,
+        Sheet::Shape => SHAPE,
+        Sheet::Query => QUERY,
+        Sheet::Leaf(_) => LEAF,
+        Sheet::Room(_) => ROOM,
+        Sheet::Twice(_) => TWO_VERDICTS,
+    }
+}
+
+// The signed number of the same 64 bits.
+fn signed_of(n: u64) -> i64
+    ensures { λ r. ⌜ r ≡ signed n ⌝ }
+{
+    keys::docid_of(keys::key_of_bits(n))
+}
+
+// How many rows a run has.
+fn row_count(first: i64, last: i64) -> u64
+    requires { ⌜ RunRight (keyOf first) (keyOf last) ⌝ }
+    ensures { λ r. ⌜ r ≡ rowCount (keyOf first) (keyOf last) ⌝ }
+{
+    keys::key_of(last) - keys::key_of(first) + 1
+}
+
+fn sheet_second(sheet: Sheet, first: i64, last: i64) -> i64
+    requires { ⌜ RunCounted first last sheet ⌝ }
+    ensures { λ r. ⌜ r ≡ sheetSecond sheet ⌝ }
+{
+    match sheet {
+        Sheet::Counted {
+            passed: _,
+            failed: _,
+            silent: _,
+            none: _,
+        } => signed_of(row_count(first, last)),
+        Sheet::Shape => signed_of(0),
+        Sheet::Query => signed_of(0),
+        Sheet::Leaf(i) => signed_of(i as u64),
+        Sheet::Room(n) => signed_of(n as u64),
+        Sheet::Twice(docid) => docid,
+    }
+}
+
+fn sheet_passed(sheet: Sheet) -> u64
+    ensures { λ r. ⌜ r ≡ passedOf sheet ⌝ }
+{
+    match sheet {
+        Sheet::Counted {
+            passed,
+            failed: _,
+            silent: _,
+            none: _,
+        } => passed as u64,
+        Sheet::Shape => 0,
+        Sheet::Query => 0,
+        Sheet::Leaf(_) => 0,
+        Sheet::Room(_) => 0,
+        Sheet::Twice(_) => 0,
+    }
+}
+
+fn sheet_failed(sheet: Sheet) -> u64
+    ensures { λ r. ⌜ r ≡ failedOf sheet ⌝ }
+{
+    match sheet {
+        Sheet::Counted {
+            passed: _,
+            failed,
+            silent: _,
+            none: _,
+        } => failed as u64,
+        Sheet::Shape => 0,
+        Sheet::Query => 0,
+        Sheet::Leaf(_) => 0,
+        Sheet::Room(_) => 0,
+        Sheet::Twice(_) => 0,
+    }
+}
+
+fn sheet_silenced(sheet: Sheet) -> u64
+    ensures { λ r. ⌜ r ≡ silencedOf sheet ⌝ }
+{
+    match sheet {
+        Sheet::Counted {
+            passed: _,
+            failed: _,
+            silent,
+            none: _,
+        } => silent as u64,
+        Sheet::Shape => 0,
+        Sheet::Query => 0,
+        Sheet::Leaf(_) => 0,
+        Sheet::Room(_) => 0,
+        Sheet::Twice(_) => 0,
+    }
+}
+
+fn sheet_none(sheet: Sheet) -> u64
+    ensures { λ r. ⌜ r ≡ noneOf sheet ⌝ }
+{
+    match sheet {
+        Sheet::Counted {
+            passed: _,
+            failed: _,
+            silent: _,
+            none,
+        } => none as u64,
+        Sheet::Shape => 0,
+        Sheet::Query => 0,
+        Sheet::Leaf(_) => 0,
+        Sheet::Room(_) => 0,
+        Sheet::Twice(_) => 0,
+    }
+}
+
+// The verdict sheet of a run.
+#[no_mangle]
+pub extern "C" fn fts4_verdict(
+    first: i64,
+    last: i64,
+    names: &[u8],
+    name_ends: &[u32],
+    leaves: &[u8],
+    leaf_ends: &[u32],
+    levels: &[u32],
+    indexes: &[u32],
+    pass_query: &[u8],
+    fail_query: &[u8],
+    silent_query: &[u8],
+    pass_room: &mut [i64],
+    fail_room: &mut [i64],
+    silent_room: &mut [i64],
+    second: &mut i64,
+    passed: &mut u64,
+    failed: &mut u64,
+    silenced: &mut u64,
+    none: &mut u64,
+) -> u32
+    ensures { λ r. ⌜ Judged (record { first = first; last = last; names = now (names .entry); name-ends = now («name_ends» .entry); leaves = now (leaves .entry); leaf-ends = now («leaf_ends» .entry); levels = now (levels .entry); indexes = now (indexes .entry); pass = now («pass_query» .entry); fail = now («fail_query» .entry); silent = now («silent_query» .entry) }) (length (now («pass_room» .entry))) (length (now («fail_room» .entry))) (length (now («silent_room» .entry))) (now («pass_room» .exit)) (now («fail_room» .exit)) (now («silent_room» .exit)) r (now (second .exit)) (now (passed .exit)) (now (failed .exit)) (now (silenced .exit)) (now (none .exit)) ⌝ }
+{
+    let sheet = verdict::verdict(
+        first,
+        last,
+        names,
+        name_ends,
+        leaves,
+        leaf_ends,
+        levels,
+        indexes,
+        pass_query,
+        fail_query,
+        silent_query,
+        pass_room,
+        fail_room,
+        silent_room,
+    );
+    *second = sheet_second(sheet, first, last);
+    *passed = sheet_passed(sheet);
+    *failed = sheet_failed(sheet);
+    *silenced = sheet_silenced(sheet);
+    *none = sheet_none(sheet);
+    sheet_number(sheet)
 }

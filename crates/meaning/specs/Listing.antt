@@ -27,6 +27,3 @@ Answers leaves tree docids = AnswersWith bareDistance leaves tree docids
 -- a room of `n` numbers: the docids of these keys, then zeros
 abbrev pub roomWith : ℕ → List ℕ → List ℤ
 roomWith n docids = map docidOf docids ++ replicate (n - length docids) (pos 0)
-
-abbrev pub zeros : ℕ → List ℤ
-zeros n = replicate n (pos 0)

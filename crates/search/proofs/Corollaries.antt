@@ -13,6 +13,7 @@ use lib.Seq.{take-at}
 use lib.Signed.{ltZ}
 use borrow.Author.Tests.{lt-ltb}
 use Rattle.common.specs.Refusals.{Numbers, numbers, Refusal, FirstDue, roomRefusal}
+use Rattle.common.specs.Rooms.{zeros}
 use Rattle.common.proofs.Refusals.{passes, gives, number-differs, first-due-once, room-gives}
 use Rattle.common.proofs.Lists.{empty}
 use Rattle.common.proofs.Members.{no-member}
@@ -29,7 +30,7 @@ use Rattle.query.proofs.Accepting.{reads-unique}
 use Rattle.meaning.specs.Satisfies.{Satisfies, StandsAt}
 use Rattle.meaning.specs.Written.{WrittenTree}
 use Rattle.meaning.specs.Index.{live}
-use Rattle.meaning.specs.Listing.{Answers, roomWith, zeros}
+use Rattle.meaning.specs.Listing.{Answers, roomWith}
 use Rattle.meaning.proofs.Lists.{lists-unique}
 use Rattle.meaning.proofs.Some.{holds-some}
 use Rattle.meaning.proofs.Distances.{answers-with-same}

@@ -9,6 +9,7 @@ use lib.IntN.{ℤ}
 use lib.ListN.{length}
 use lib.Seq.{take-all}
 use Rattle.common.specs.Refusals.{numbers, FirstDue, roomRefusal}
+use Rattle.common.specs.Rooms.{zeros}
 use Rattle.common.proofs.Cases.{false-not-true}
 use Rattle.offsets.proofs.Cuts.{length-cut}
 use Rattle.directory.specs.Order.{upTo, OrderIs}
@@ -19,7 +20,7 @@ use Rattle.query.specs.Tree.{Tree}
 use Rattle.query.specs.declared.Reading.{Reading}
 use Rattle.query.specs.Reading.{Compiles}
 use Rattle.query.proofs.Bounds.{reads-words, reads-filled}
-use Rattle.meaning.specs.Listing.{Answers, zeros}
+use Rattle.meaning.specs.Listing.{Answers}
 use Rattle.engine.specs.Run.{Ran}
 use Rattle.engine.proofs.Rooms.{fitted-all, length-fitted}
 use Rattle.search.specs.Search.{numbersOf, Input, columnNames, columnCount, leafBytes, leafPairs, ShapeRight, IsQuery, IndexIs, refusals, roomFor, Searched}

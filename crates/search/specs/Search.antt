@@ -8,6 +8,7 @@ use lib.IntN.{ℤ}
 use lib.ListN.{length}
 use Rattle.common.specs.Refusals.{Numbers, numbers, Refusal, FirstDue, shapeRefusal, roomRefusal}
 use Rattle.common.specs.Bounds.{maxLeaves, maxIndexBytes}
+use Rattle.common.specs.Rooms.{zeros}
 use Rattle.offsets.specs.Cut.{Cuts, cut}
 use Rattle.offsets.specs.Names.{Names}
 use Rattle.directory.specs.Age.{Pair, pairs, Dated, NewestFirst}
@@ -16,7 +17,7 @@ use Rattle.leaf.specs.Answers.{leafRefusals}
 use Rattle.query.specs.Tree.{Tree}
 use Rattle.query.specs.Grammar.{Reads}
 use Rattle.meaning.specs.Satisfies.{bareDistance}
-use Rattle.meaning.specs.Listing.{AnswersWith, roomWith, zeros}
+use Rattle.meaning.specs.Listing.{AnswersWith, roomWith}
 use Rattle.search.specs.declared.Answer.{Answer}
 use Rattle.search.specs.declared.Answer.the-variants as answer
 

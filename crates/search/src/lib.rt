@@ -8,10 +8,10 @@ ghost use mathlib.Core.List.{List};
 ghost use Prim.Native.Nat.{ℕ, _≤_};
 ghost use lib.ListN.{length};
 ghost use Rattle.common.specs.Bounds.{maxColumns, maxIndexBytes};
+ghost use Rattle.common.specs.Rooms.{zeros};
 ghost use Rattle.offsets.specs.Cut.{cut};
 ghost use Rattle.directory.specs.Order.{Ordered};
 ghost use Rattle.leaf.specs.Leaf.{IsLeaf};
-ghost use Rattle.meaning.specs.Listing.{zeros};
 ghost use Rattle.search.specs.Search.{ShapeRight, Searched};
 ghost use Rattle.search.specs.Checking.{SoundLeaves};
 
@@ -88,7 +88,7 @@ fn sound_leaves(leaves: &[u8], ends: &[u32], columns: u32) -> usize
 fn refused(room: &mut [i64], answer: Answer) -> Answer
     ensures { λ r. ⌜ (r ≡ answer) × (now (room .exit) ≡ zeros (length (now (room .entry)))) ⌝ }
 {
-    engine::clear(room);
+    common::clear(room);
     answer
 }
 

@@ -8,7 +8,7 @@ use borrow.Author.Needs.{needs}
 use mir.Facts.{toZ-ofZ}
 use mir.Syntax.{w64}
 use mir.Val.{toZ, ofZ}
-use Rattle.engine.proofs.Rooms.{docid-fits}
+use Rattle.doclist.proofs.Docids.{docid-fits}
 use Rattle.engine.proofs.put_docid.Statement.{statement}
 use Rattle.engine.proofs.put_docid.Tie as tie
 

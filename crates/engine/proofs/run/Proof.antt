@@ -2,7 +2,7 @@
 use native.Mathlib.Omega.{arith}
 use mathlib.Core.Path.{sym, ap, _∙_}
 use borrow.Author.Needs.{needs}
-use Rattle.meaning.specs.Listing.{zeros}
+use Rattle.common.specs.Rooms.{zeros}
 use Rattle.engine.proofs.Running.{ran}
 use Rattle.engine.proofs.run.Statement.{statement}
 use Rattle.engine.proofs.run.Tie as tie

@@ -6,9 +6,9 @@ use mathlib.Core.List.{List, _++_}
 use lib.IntN.{ℤ, pos}
 use lib.ListN.{length, drop, set, replicate}
 use borrow.Author.Needs.{needs}
 use Rattle.common.proofs.Rooms.{fill-more, fill-all}
-use Rattle.engine.proofs.clear.Statement.{statement}
-use Rattle.engine.proofs.clear.Tie as tie
+use Rattle.common.proofs.clear.Statement.{statement}
+use Rattle.common.proofs.clear.Tie as tie
 
 abbrev Inv-loop : tie.InvT-loop
 Inv-loop room₀ i₀ room i = (i ≤ length room₀) × (length room ≡ length room₀) × (room ≡ replicate i (pos 0) ++ drop i room₀)

@@ -1,0 +1,3 @@
+-- The definitions of this crate, in the order in which they build on each other.
+pub mod Sheet
+pub mod Counting
