@@ -19,20 +19,13 @@ import argparse
 import json
 import os
 import sys
-import tempfile
 
+import command
 import export_folder
 import export_leaves
 import fts4box
+from command import DONE, FAILED, MEANINGS, NOT_EXPORTABLE, REFUSED_BY_BOX, say, tell
 from export_folder import Refused
-
-COUNTED, REFUSED_BY_BOX, NOT_EXPORTABLE, FAILED = range(4)
-MEANINGS = {
-    1: "shape: the column names, or the number, the size, the levels or the indexes of the leaves",
-    2: "the query is not in the language, or has more than 512 bytes, 16 words or 8 parentheses one in the other",
-    3: "a leaf breaks a rule; the second number says which, counted from 0 in the manifest's order",
-    4: "too little room for the docids; the second number says how many there are",
-}
 
 
 def options(words):
@@ -50,14 +43,10 @@ def options(words):
 
 
 def export_of(given):
-    """What is searched is always read from a folder, through its manifest."""
     if given.folder is not None:
         return export_folder.read(given.folder)
     database, table, _ = given.words
-    with tempfile.TemporaryDirectory() as place:
-        folder = os.path.join(place, "export")
-        export_folder.write(folder, export_leaves.export(database, table, given.prepare))
-        return export_folder.read(folder)
+    return command.through_folder(export_leaves.export(database, table, given.prepare))
 
 
 def searched(export, query):
@@ -79,18 +68,6 @@ def written(given, number, second, docids):
     return "".join("%d\n" % n for n in [second] + (docids if given.list else []))
 
 
-def say(text):
-    """Writes all of it, or raises."""
-    if sys.stdout is None:
-        raise OSError("there is no standard output")
-    sys.stdout.write(text)
-    sys.stdout.flush()
-
-
-def tell(message):
-    print(message, file=sys.stderr)
-
-
 def count(given):
     export = export_of(given)
     tell("table %s of %s, exported %s: %s" % (export.table, export.database, export.time, export_leaves.said_of(export)))
@@ -99,7 +76,7 @@ def count(given):
     if number != 0:
         tell("refused %d %d: %s" % (number, second, MEANINGS[number]))
         return REFUSED_BY_BOX
-    return COUNTED
+    return DONE
 
 
 def main(words):

@@ -1,13 +1,16 @@
 #!/usr/bin/env python3
-"""A radio test bench's index, made with real SQLite, and the same queries asked of SQLite, the box and the one-search program.
+"""A radio test bench's index, made with real SQLite, and the same queries asked of SQLite, the box and the one-search program; then the bench's verdict sheet.
 
     python3 tools/demo.py
 
 48 nodes are probed in turn, a probe each 250 ms. Each probe is a row: node, when it was sent, outcome. The static library and
-the program must have been built. Exit status 1 if any two lists of docids differ.
+the program must have been built. The sheet and the database that it is made from stay in target/demo. Exit status 1 if any two lists of docids differ,
+or there is no sheet.
 """
 import os
 import random
+import shlex
+import shutil
 import sqlite3
 import subprocess
 import sys
@@ -16,6 +19,7 @@ import tempfile
 import export_folder
 import export_leaves
 import fts4box
+import verdict
 
 NODES, PERIOD_MS, TRANSACTIONS, ROUNDS_EACH, SEED = 48, 250, 7, 4, 1
 OUTCOMES = ("reply", "reply", "reply", "reply late", "no reply, timeout")
@@ -24,7 +28,9 @@ QUERIES = (
     "outcome:reply NOT outcome:timeout", "reply", "timeout", "n12 reply", "(n12 OR n13) NOT late", '"no reply"', "no NEAR/1 timeout",
     "late NEAR/0 reply", "n1* late", "sent:t1* NOT n1*", "absent",
 )
+VERDICTS = ["--pass", "outcome:reply NOT outcome:timeout NOT outcome:late", "--fail", "outcome:late", "--silent", "outcome:timeout"]
 PROGRAM = os.path.join(fts4box.ROOT, "target", "bin", "fts4search")
+FOLDER = os.path.join(fts4box.ROOT, "target", "demo")
 
 
 def probe(base, rng, number):
@@ -102,6 +108,23 @@ def compare(base, folder, boxed):
     return different
 
 
+def kept(database):
+    """A copy that stays after the program, whole or not at all."""
+    os.makedirs(FOLDER, exist_ok=True)
+    path = os.path.relpath(os.path.join(FOLDER, os.path.basename(database)))
+    shutil.copyfile(database, path + ".new")
+    os.replace(path + ".new", path)
+    return path
+
+
+def sheet(database):
+    """Makes the sheet of all probes, as anybody would from the kept database; whether there is one."""
+    run = ["--first", "0", "--last", str(NODES * ROUNDS_EACH * TRANSACTIONS - 1)]
+    words = [database, "probes", *run, *VERDICTS, "--by", "node", "--html", os.path.join(os.path.dirname(database), "sheet.html")]
+    print("\npython3 %s %s" % (os.path.relpath(verdict.__file__), shlex.join(words)))
+    return verdict.main(words) == 0
+
+
 def main():
     library = fts4box.load()
     with tempfile.TemporaryDirectory() as place:
@@ -114,11 +137,11 @@ def main():
         with open(os.path.join(folder, export_folder.PROGRAM_FILE), "wb") as f:
             f.write(one.leaves[0].data[:-1])
         print("\nwith the leaf's last byte missing the program says: %s" % count(by_program(folder, QUERIES[0])))
-    if different:
-        print("%d of %d queries list DIFFERENT docids" % (different, len(QUERIES)))
-        return 1
-    print("all %d queries list the same docids" % len(QUERIES))
-    return 0
+        if different:
+            print("%d of %d queries list DIFFERENT docids" % (different, len(QUERIES)))
+            return 1
+        print("all %d queries list the same docids" % len(QUERIES))
+        return 0 if sheet(kept(database)) else 1
 
 
 if __name__ == "__main__":

@@ -319,11 +319,13 @@ def prepare(path, table):
     return "rebuild"
 
 
+@contextlib.contextmanager
 def exported(database, table):
     with reading(database) as base:
-        return taken(base, base, database, table)
+        yield taken(base, base, database, table), base
 
 
+@contextlib.contextmanager
 def exported_prepared(database, table):
     """The copy is made twice: one is prepared, the other stays as it was and is asked."""
     with tempfile.TemporaryDirectory() as folder:
@@ -338,12 +340,35 @@ def exported_prepared(database, table):
         except sqlite3.Error as error:
             raise Refused("the copy of the database can't be prepared: %s" % error)
         with reading(before) as asked, reading(after) as base:
-            return taken(base, asked, database, name, done)
+            yield taken(base, asked, database, name, done), asked
+
+
+def exporting(database, table, prepared=False):
+    """The export, and the connection that it was held against, still in its transaction: what is read there are the rows of the export."""
+    return exported_prepared(database, table) if prepared else exported(database, table)
 
 
 def export(database, table, prepared=False):
     """The leaves of a table with all that the manifest says of them."""
-    return exported_prepared(database, table) if prepared else exported(database, table)
+    with exporting(database, table, prepared) as (made, _):
+        return made
+
+
+def column_of(export, wanted):
+    """The table's own name of a column, whatever its ASCII case."""
+    for name in export.names:
+        if name.encode().lower() == os.fsencode(wanted).lower():
+            return name
+    raise Refused("the table %s has no column %s: it has %s" % (name_of(export.table), name_of(wanted), ", ".join(export.names)))
+
+
+def rows_of_run(asked, export, first, last, column=None):
+    """Each stored row of a run with the bytes of its text in a column, None where that is NULL or no column is named; and how many rows the table has."""
+    text = "null" if column is None else "cast(%s as text)" % name_of(column_of(export, column))
+    asked.text_factory = bytes
+    rows = asked.execute("select docid, %s from main.%s where docid between ? and ?" % (text, name_of(export.table)), (first, last)).fetchall()
+    (stored,) = asked.execute("select count(*) from main.%s" % name_of(export.table)).fetchone()
+    return dict(rows), stored
 
 
 def said_of(export):
