@@ -373,8 +373,8 @@ def rows_of_run(asked, export, first, last, column=None):
 
 def said_of(export):
     done = "" if export.prepared == "no" else "; prepared in a copy: page size %d, vacuum, %s" % (PAGE_SIZE, export.prepared)
-    total = sum(len(leaf.data) for leaf in export.leaves)
-    return "%d leaves, %d bytes, columns %s%s" % (len(export.leaves), total, " ".join(export.names), done)
+    count, total = len(export.leaves), sum(len(leaf.data) for leaf in export.leaves)
+    return "%d %s, %d bytes, columns %s%s" % (count, "leaf" if count == 1 else "leaves", total, " ".join(export.names), done)
 
 
 class Words(argparse.ArgumentParser):
