@@ -1,5 +1,5 @@
-/* Measures the box beside SQLite and beside a plain C checker, and a verdict sheet beside its three searches, on the same data in one
- * run: repetitions are interleaved, and the best of each counts.
+/* Measures the box beside SQLite and beside a plain C checker, a verdict sheet beside its three searches, and a merge beside SQLite's
+ * `optimize` and beside the check of its leaves, on the same data in one run: repetitions are interleaved, and the best of each counts.
  *
  *     bench FOLDER
  *
@@ -17,7 +17,7 @@
 
 enum { MAX_LEAVES = 8, MAX_BYTES = 65536, COLUMNS = 3, ROOM = 65536, ROUNDS = 300, SIZES = 4, PATH = 4096 };
 /* The check and the sheet have the narrowest bounds, so that each side needs a quiet moment. */
-enum { CHECK_ROUNDS = 3000, SHEET_ROUNDS = 1000 };
+enum { CHECK_ROUNDS = 3000, SHEET_ROUNDS = 1000, MERGE_ROUNDS = 1000 };
 
 static const char NAMES[] = "nodesentoutcome";
 static const uint32_t NAME_ENDS[COLUMNS] = { 4, 8, 15 };
@@ -61,6 +61,8 @@ enum { ALL_MET, SOME_NOT_MET, NOT_MEASURED };
 #define NONE_YET 1e18
 
 static const double CHECK_LIMIT = 1.2, GROWTH_LIMIT = 2.4, SHEET_LIMIT = 1.05, WORST_LIMIT = 2e6;
+/* A merge beside SQLite's, beside the check of its leaves, and of any leaves. */
+static const double MERGE_LIMIT = 2.0, MERGE_CHECK_LIMIT = 6.0, MERGE_WORST_LIMIT = 1e6;
 
 /* The lists of a verdict sheet: passes, failures, silence. */
 enum { PASSES, FAILURES, SILENCE, LISTS };
@@ -80,6 +82,7 @@ struct times {
 };
 
 static int64_t room[ROOM], sheet_rooms[LISTS][FTS4_SEARCH_ROOM];
+static uint8_t merged[FTS4_MERGE_ROOM];
 static int bounds, bounds_met;
 
 static double now(void)
@@ -202,6 +205,71 @@ static double box_sheet(const struct index *x, int64_t rows, uint64_t found[LIST
     return spent;
 }
 
+/* The merge of all leaves, and its bytes. */
+static double box_merge(const struct index *x, uint64_t *size)
+{
+    uint32_t level, index;
+    double start = now();
+    uint32_t answer = fts4_merge(COLUMNS, x->leaves, size_of(x), x->ends, x->count, x->levels, x->count, x->indexes, x->count, merged, sizeof merged, size,
+                                 &level, &index);
+    double spent = now() - start;
+    if (answer != FTS4_ACCEPTED)
+        fail("a merge is refused");
+    return spent;
+}
+
+/* An index in memory, with what is asked of it. */
+struct copy {
+    sqlite3 *db;
+    sqlite3_stmt *optimize, *root;
+};
+
+static void execute(sqlite3 *db, const char *words)
+{
+    if (sqlite3_exec(db, words, NULL, NULL, NULL) != SQLITE_OK)
+        fail(sqlite3_errmsg(db));
+}
+
+static struct copy in_memory(sqlite3 *db)
+{
+    struct copy copy;
+    if (sqlite3_open(":memory:", &copy.db) != SQLITE_OK)
+        fail("there is no database in memory");
+    execute(copy.db, "pragma page_size=65536");
+    sqlite3_backup *backup = sqlite3_backup_init(copy.db, "main", db, "main");
+    if (!backup || sqlite3_backup_step(backup, -1) != SQLITE_DONE || sqlite3_backup_finish(backup) != SQLITE_OK)
+        fail("the index can't be copied to memory");
+    if (sqlite3_prepare_v2(copy.db, "insert into t(t) values ('optimize')", -1, &copy.optimize, NULL) != SQLITE_OK ||
+        sqlite3_prepare_v2(copy.db, "select root from t_segdir", -1, &copy.root, NULL) != SQLITE_OK)
+        fail("SQLite can't read the copy");
+    return copy;
+}
+
+static void closed(struct copy *copy)
+{
+    sqlite3_finalize(copy->optimize);
+    sqlite3_finalize(copy->root);
+    sqlite3_close(copy->db);
+}
+
+/* SQLite's `optimize` in a transaction that is then taken back, so that it has the same segments each time. Its one leaf must be the box's. */
+static double sqlite_merge(const struct copy *copy, uint64_t size)
+{
+    execute(copy->db, "begin");
+    double start = now();
+    int done = sqlite3_step(copy->optimize);
+    double spent = now() - start;
+    sqlite3_reset(copy->optimize);
+    if (done != SQLITE_DONE || sqlite3_step(copy->root) != SQLITE_ROW)
+        fail("SQLite does not merge");
+    const void *root = sqlite3_column_blob(copy->root, 0);
+    if ((uint64_t)sqlite3_column_bytes(copy->root, 0) != size || memcmp(root, merged, size) || sqlite3_step(copy->root) != SQLITE_DONE)
+        fail("SQLite merges otherwise");
+    sqlite3_reset(copy->root);
+    execute(copy->db, "rollback");
+    return spent;
+}
+
 static double sqlite_search(sqlite3_stmt *statement, uint64_t *found)
 {
     *found = 0;
@@ -313,7 +381,31 @@ static void table_of_sheet(const struct index *x, int64_t rows)
            (unsigned long)found[SILENCE], sheet, searches, sheet / searches, SHEET_LIMIT, judged(sheet / searches, SHEET_LIMIT));
 }
 
-/* Each line of worst.txt: a folder, and the query that is dear on its leaves. */
+/* A merge beside SQLite's of the same segments, and beside the check of the leaves that it begins with; then by size. */
+static void table_of_merge(const struct index *all)
+{
+    const struct index *x = &all[SIZES - 1];
+    double best[SIZES] = { NONE_YET, NONE_YET, NONE_YET, NONE_YET }, check = NONE_YET, sqlite = NONE_YET;
+    uint64_t size = 0;
+    struct copy copy = in_memory(x->db);
+    for (int i = 0; i < MERGE_ROUNDS; i++) {
+        for (int k = 0; k < SIZES; k++)
+            keep_least(&best[k], box_merge(&all[k], &size));
+        keep_least(&check, box_check(x));
+        keep_least(&sqlite, sqlite_merge(&copy, size));
+    }
+    closed(&copy);
+    double merge = best[SIZES - 1], growth = merge / best[SIZES - 2];
+    printf("\n| merge of 8 leaves (%zu bytes) | bytes after | merge µs | SQLite's optimize µs | merge / SQLite | at most | | check µs | merge / check | at most | |\n",
+           size_of(x));
+    printf("|---|---|---|---|---|---|---|---|---|---|---|\n");
+    printf("| | %lu | %.0f | %.0f | %.2f | %.1f | %s | %.0f | %.1f | %.1f | %s |\n", (unsigned long)size, merge, sqlite, merge / sqlite, MERGE_LIMIT,
+           judged(merge / sqlite, MERGE_LIMIT), check, merge / check, MERGE_CHECK_LIMIT, judged(merge / check, MERGE_CHECK_LIMIT));
+    printf("\n| merge µs at so many rows | 400 | 800 | 1,600 | 3,200 | 1,600 to 3,200 | at most | |\n|---|---|---|---|---|---|---|---|\n");
+    printf("| | %.0f | %.0f | %.0f | %.0f | %.2f | %.1f | %s |\n", best[0], best[1], best[2], best[3], growth, GROWTH_LIMIT, judged(growth, GROWTH_LIMIT));
+}
+
+/* Each line of worst.txt: a folder, and the query that is dear on its leaves. The leaves are merged too. */
 static void table_of_worst(const char *folder)
 {
     static struct index x;
@@ -323,9 +415,9 @@ static void table_of_worst(const char *folder)
     FILE *f = fopen(path, "r");
     if (!f)
         fail("there is no worst.txt");
-    printf("\n| worst inputs | query | rows found | box ms | at most | |\n|---|---|---|---|---|---|\n");
+    printf("\n| worst inputs | query | rows found | box ms | at most | | merge ms | at most | |\n|---|---|---|---|---|---|---|---|---|\n");
     for (; fgets(line, sizeof line, f); inputs++) {
-        uint64_t found;
+        uint64_t found, size;
         line[strcspn(line, "\n")] = 0;
         char *query = strchr(line, ' ');
         if (!query)
@@ -335,9 +427,9 @@ static void table_of_worst(const char *folder)
         load(&x, path);
         if (x.count == 0)
             fail("a folder of worst.txt has no leaf");
-        double spent = box_search(&x, query, &found);
-        printf("| %s | `%.40s%s` | %lu | %.1f | %.0f | %s |\n", line, query, strlen(query) > 40 ? " .." : "", (unsigned long)found, spent / 1e3,
-               WORST_LIMIT / 1e3, judged(spent, WORST_LIMIT));
+        double spent = box_search(&x, query, &found), merging = box_merge(&x, &size);
+        printf("| %s | `%.40s%s` | %lu | %.1f | %.0f | %s | %.1f | %.0f | %s |\n", line, query, strlen(query) > 40 ? " .." : "", (unsigned long)found,
+               spent / 1e3, WORST_LIMIT / 1e3, judged(spent, WORST_LIMIT), merging / 1e3, MERGE_WORST_LIMIT / 1e3, judged(merging, MERGE_WORST_LIMIT));
         fflush(stdout);
     }
     fclose(f);
@@ -361,6 +453,7 @@ int main(int argc, char **argv)
     table_of_queries(&all[SIZES - 1]);
     table_of_growth(all);
     table_of_sheet(&all[SIZES - 1], ROWS[SIZES - 1]);
+    table_of_merge(all);
     table_of_worst(argv[1]);
     printf("\n%d of %d bounds met\n", bounds_met, bounds);
     return bounds_met == bounds ? ALL_MET : SOME_NOT_MET;

@@ -1,5 +1,6 @@
 #!/usr/bin/env python3
-"""Makes the dearest inputs known: leaves of at most 65,536 bytes together and queries of at most 16 words that keep the box busy.
+"""Makes the dearest inputs known: leaves of at most 65,536 bytes together and queries of at most 16 words that keep the box busy, and leaves that are dear
+to merge.
 
     python3 bench/make_worst.py FOLDER
 
@@ -63,6 +64,23 @@ def spread(count):
     return [reference.encode_leaf([term(w, [(i + 1, [0])]) for i, w in enumerate(words) if i % MAX_LEAVES == k]) for k in range(MAX_LEAVES)]
 
 
+def in_turn(count):
+    """One word in all leaves, with a row of each in turn."""
+    return [reference.encode_leaf([term(b"a", [(d + 1, [0]) for d in range(count) if d % MAX_LEAVES == k])]) for k in range(MAX_LEAVES)]
+
+
+def all_alike(count):
+    """The same words in all leaves, each with a row of its own in each."""
+    return [reference.encode_leaf([term(b"a" + w, [(k + 1, [0])]) for w in numbered(count, 3)]) for k in range(MAX_LEAVES)]
+
+
+def most(make, count, step):
+    """The largest leaves of their kind that fit together."""
+    while sum(map(len, make(count))) > MAX_BYTES:
+        count -= step
+    return make(count)
+
+
 def many_hits(count):
     """In one row, words with one position each, and after them one with as many positions as there are words left."""
     words = numbered(count, 3)
@@ -98,10 +116,9 @@ def inputs():
     yield "many-words-one-row", one_row, alike("a*", " AND ")
     long = fitted(lambda n: [term(b"w" * 61 + w, [(i + 1, [0])]) for i, w in enumerate(numbered(n, 3))])
     yield "long-words", long, alike("w" * 27 + "*", " OR ")
-    count = 9000
-    while sum(map(len, spread(count))) > MAX_BYTES:
-        count -= 50
-    yield "spread-words", spread(count), alike("a*", " OR ")
+    yield "spread-words", most(spread, 9000, 50), alike("a*", " OR ")
+    yield "rows-in-turn", most(in_turn, 22000, 50), alike("a", " OR ")
+    yield "words-in-all", most(all_alike, 1100, 5), alike("a*", " OR ")
 
 
 def main(folder):

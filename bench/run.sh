@@ -1,5 +1,5 @@
 #!/usr/bin/env bash
-# Measures the box beside SQLite and a plain C checker, in one run, and prints the tables. bench/RESULTS.md keeps the last ones.
+# Measures the box beside SQLite and a plain C checker, searches, sheets and merges, in one run, and prints the tables. bench/RESULTS.md keeps the last ones.
 #
 #     bash bench/run.sh [--built]    --built: the static library is built already
 #

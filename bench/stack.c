@@ -2,7 +2,7 @@
  * byte that no longer has it tells. Each call gets several inputs, the worst ones too; its largest depth is printed. It fails if the
  * verdict sheet takes more than the search and 1 KiB.
  *
- *     stack [CALL BOUND]    fails too if CALL takes more than BOUND bytes
+ *     stack [CALL BOUND]..    fails too if CALL takes more than BOUND bytes
  */
 #include "fts4box.h"
 
@@ -26,7 +26,7 @@ static const uint8_t names[] = "nodesentoutcome";
 static const uint32_t name_ends[] = {4, 8, 15};
 static uint64_t second, start, numbers_read, passed, failed, silenced, none;
 static int64_t signed_second;
-static uint32_t which;
+static uint32_t which, merged_level, merged_index;
 
 static void nothing(void)
 {
@@ -51,6 +51,12 @@ static void deciding(void)
 static void write_leaf(void)
 {
     fts4_write(7, texts, texts_len, text_ends, text_count, bytes_room, sizeof bytes_room, &second);
+}
+
+static void merge(void)
+{
+    fts4_merge(3, leaves, leaves_len, leaf_ends, leaf_count, levels, leaf_count, indexes, leaf_count, bytes_room, sizeof bytes_room, &second, &merged_level,
+               &merged_index);
 }
 
 static void search(void)
@@ -235,6 +241,7 @@ int main(int argc, char **argv)
         {"fts4_lookup", depth_over_leaves(lookup)},
         {"fts4_deciding", depth_over_leaves(deciding)},
         {"fts4_write", write_depth()},
+        {"fts4_merge", depth_over_leaves(merge)},
         {"fts4_search", depth_over_leaves(search)},
         {"fts4_verdict", depth_over_leaves(verdict)},
     };
@@ -242,10 +249,12 @@ int main(int argc, char **argv)
     int over = 0;
     for (size_t i = 0; i < COUNT; i++) {
         printf("%-14s %7zu bytes\n", measured[i].name, measured[i].depth);
-        over |= argc == 3 && !strcmp(argv[1], measured[i].name) && measured[i].depth > strtoul(argv[2], NULL, 10);
+        for (int k = 1; k + 1 < argc; k += 2)
+            if (!strcmp(argv[k], measured[i].name) && measured[i].depth > strtoul(argv[k + 1], NULL, 10)) {
+                printf("%s takes more than %s bytes\n", argv[k], argv[k + 1]);
+                over = 1;
+            }
     }
-    if (over)
-        printf("%s takes more than %s bytes\n", argv[1], argv[2]);
     /* the last two are the search and the sheet */
     if (measured[COUNT - 1].depth > measured[COUNT - 2].depth + SHEET_MORE) {
         printf("a sheet takes more than a search and %d bytes\n", SHEET_MORE);

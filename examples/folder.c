@@ -131,7 +131,9 @@ static uint64_t number_of(struct manifest *manifest, const char *key, uint64_t l
 /* What the box does not need, but a manifest must have. */
 static void read_head(struct manifest *manifest)
 {
+    static const char *const done[] = { "no", "optimize", "rebuild", "merge", "optimize+merge", "rebuild+merge" };
     const char *prepared;
+    size_t i = 0;
 
     if (strcmp(value_of(manifest, "fts4box export"), "1") != 0)
         wrong(manifest, "the export is of another version: export again");
@@ -140,8 +142,10 @@ static void read_head(struct manifest *manifest)
     value_of(manifest, "sqlite");
     value_of(manifest, "time");
     prepared = value_of(manifest, "prepared");
-    if (strcmp(prepared, "no") != 0 && strcmp(prepared, "optimize") != 0 && strcmp(prepared, "rebuild") != 0)
-        wrong(manifest, "is not `no`, `optimize` or `rebuild`");
+    while (i < sizeof done / sizeof *done && strcmp(prepared, done[i]) != 0)
+        i++;
+    if (i == sizeof done / sizeof *done)
+        wrong(manifest, "is not `no`, `optimize`, `rebuild`, nor one of these and `merge`");
 }
 
 /* The box itself checks what the names are made of, and that no two are equal. */

@@ -11,7 +11,7 @@
  * one slice with a list of 32-bit ends: the ends never fall, none passes the slice's length, and the last equals it; an
  * empty list goes only with an empty slice.
  *
- * Age. The leaves of a search come in any order, each with its level and its index, as SQLite's %_segdir has them (level, idx). A
+ * Age. The leaves of an index come in any order, each with its level and its index, as SQLite's %_segdir has them (level, idx). A
  * leaf is newer than another if its level is lower, or the levels are the same and its index is higher. No two have the same pair.
  *
  * What a caller must keep (it is not checked): every pointer is aligned and has so many elements from it on; the numbers to be
@@ -24,7 +24,8 @@
  * need no other symbol than memcpy, memmove and memset.
  *
  * Stack, measured on x86-64 (bench/stack.sh):
- *     fts4_check, fts4_lookup and fts4_deciding 1 KiB, fts4_write 37 KiB, fts4_search 254 KiB, fts4_verdict 255 KiB
+ *     fts4_check, fts4_lookup and fts4_deciding 1 KiB, fts4_write 37 KiB, fts4_search 254 KiB, fts4_verdict 255 KiB,
+ *     fts4_merge 10 KiB
  */
 #ifndef FTS4BOX_H
 #define FTS4BOX_H
@@ -37,8 +38,8 @@ extern "C" {
 #endif
 
 /* A change of a signature or of what a call answers raises the version. The number is 100 times its first part plus the second. */
-#define FTS4BOX_VERSION "1.6"
-#define FTS4BOX_VERSION_NUMBER 106
+#define FTS4BOX_VERSION "1.7"
+#define FTS4BOX_VERSION_NUMBER 107
 
 /* The bounds: what is over one is refused. */
 #define FTS4_MAX_QUERY 512      /* bytes of a query */
@@ -55,10 +56,11 @@ extern "C" {
 /* Rooms that are enough for every input, so that number 4 is never given. */
 #define FTS4_SEARCH_ROOM 21845 /* docids of a search, or of each list of a verdict */
 #define FTS4_WRITE_ROOM 40960  /* bytes */
+#define FTS4_MERGE_ROOM 65536  /* bytes: a merge that needs more is refused by number 1 */
 
 enum {
     FTS4_ACCEPTED = 0,    /* second: docids listed, bytes written, bytes in the part, or rows of the run */
-    FTS4_SHAPE = 1,       /* ends, names, counts, sizes, levels and indexes, a word's length or a run; second is 0 */
+    FTS4_SHAPE = 1,       /* ends, names, counts, sizes, levels and indexes, a word's length, a run, a merge's size; second is 0 */
     FTS4_QUERY = 2,       /* a query is not in the language or over a bound of it; second is 0 */
     FTS4_LEAF = 3,        /* a leaf breaks a rule; second is the first such leaf, counted from 0 in the order lent */
     FTS4_ROOM = 4,        /* a room is too small; second is what is needed */
@@ -132,6 +134,21 @@ uint32_t fts4_verdict(int64_t first, int64_t last,
                       int64_t *pass_room, size_t pass_room_len, int64_t *fail_room, size_t fail_room_len,
                       int64_t *silent_room, size_t silent_room_len,
                       int64_t *second, uint64_t *passed, uint64_t *failed, uint64_t *silenced, uint64_t *none);
+
+/* Merges all leaves of an index, 1 to 8, into one: it has for each word and docid the entry of the newest leaf that has one, but no
+ * deletions, and no words that are left without an entry. Every query gives the same list before and after.
+ *
+ * Lent are the count of columns, leaves of together at most 65,536 bytes, in any order, and a level and an index for each leaf, in
+ * the order of the leaves. They must be all leaves of the index: a deletion that is dropped hides nothing any more in a leaf that
+ * was left out.
+ *
+ * Answers 0 with the bytes written, 0 bytes if nothing is left: the index then has no leaf; or, checked in this order, 1; 3 with
+ * the first leaf that breaks a rule, in the order lent; 1 if the merged leaf would have more than 65,536 bytes, whatever the room;
+ * 4 with the bytes needed. *level and *index are those of the newest leaf lent, and the merged leaf takes them; both are 0 if the
+ * answer is not 0, or nothing is written. */
+uint32_t fts4_merge(uint32_t columns, const uint8_t *leaves, size_t leaves_len, const uint32_t *leaf_ends, size_t leaf_ends_len,
+                    const uint32_t *levels, size_t levels_len, const uint32_t *indexes, size_t indexes_len,
+                    uint8_t *room, size_t room_len, uint64_t *second, uint32_t *level, uint32_t *index);
 
 #ifdef __cplusplus
 }

@@ -3,7 +3,8 @@ import itertools
 
 import reference
 from fts4box import joined
-from leaf_format import MAX_U32, age
+from generated import LEAST_DOCID
+from leaf_format import MAX_COLUMNS, MAX_U32, age
 
 U32_EDGES = (0, 1, 2**31 - 1, 2**31, MAX_U32 - 1, MAX_U32)
 # what SQLite has on a level before it merges
@@ -72,3 +73,31 @@ def told(by_age):
     """The rows that `node:w` lists over such leaves, whose numbers come newest first; `d` lists all others."""
     pairs = itertools.combinations(range(len(by_age)), 2)
     return [row_of(one, other) for one, other in pairs if by_age.index(one) < by_age.index(other)]
+
+
+# Leaves whose merge has more bytes than they have
+
+
+def grown(words, places):
+    """Two leaves, newest first: after the least docid, docid 1 takes ten bytes, where it took one. The word z has so many positions."""
+    older = [(word, [(LEAST_DOCID, [(0, [0])])]) for word in words]
+    newer = [(word, [(1, [(0, [0])])]) for word in words] + [(b"z", [(1, [(0, list(range(places)))])])]
+    return [reference.encode_leaf(newer), reference.encode_leaf(older)]
+
+
+def merged_size(leaves):
+    """The bytes of the merge of leaves that come newest first, however many."""
+    parsed = [reference.parse_leaf(leaf, MAX_COLUMNS) for leaf in leaves]
+    return len(reference.encode_leaf(reference.merged_terms(parsed, False)))
+
+
+def grown_leaves(need):
+    """Such leaves whose merge has just so many bytes, a few thousand or more."""
+    words = [b"%04d" % number for number in range(need // 29)]
+    more = need - merged_size(grown(words, 1))
+    # the length of the list of z takes one byte or two
+    for places in (1 + more, more):
+        leaves = grown(words, places)
+        if merged_size(leaves) == need:
+            return leaves
+    raise AssertionError("no leaves are merged to %d bytes" % need)

@@ -4,8 +4,8 @@
     python3 tests/make_cases.py            write them
     python3 tests/make_cases.py --check    fail if the committed ones differ from what would be written
 
-A case is the number of what it asks for, two numbers, two fields with their ends, in a search and a verdict the levels and the indexes, and a
-short field; a verdict has three short fields and three room sizes after them (case_writer.py). A number takes eight bytes, the highest
+A case is the number of what it asks for, two numbers, two fields with their ends, in a search, a verdict and a merge the levels and the indexes, and
+a short field; a verdict has three short fields and three room sizes after them (case_writer.py). A number takes eight bytes, the highest
 first; a field is its length and its bytes; ends, levels and indexes are their count and four bytes each. The number 0 ends the input. The
 seeds are fixed.
 """
@@ -14,6 +14,7 @@ import sys
 
 import ground_cases
 import leaf_cases
+import merge_cases
 import query_cases
 import search_cases
 import verdict_cases
@@ -22,7 +23,7 @@ from case_writer import Cases
 
 ROOT = os.path.dirname(os.path.dirname(os.path.abspath(__file__)))
 FOLDER = os.path.join(ROOT, "crates", "cases")
-LAYERS = [ground_cases, leaf_cases, query_cases, writer_cases, search_cases, verdict_cases]
+LAYERS = [ground_cases, leaf_cases, query_cases, writer_cases, search_cases, verdict_cases, merge_cases]
 
 
 def files():

@@ -1,4 +1,4 @@
-"""A second program for the FTS4 leaf checker, lookup, leaf writer, search and verdict sheet.
+"""A second program for the FTS4 leaf checker, lookup, leaf writer, search, verdict sheet and merge.
 
 It is written from document 01, "Build specification and rules", and document 02,
 "Requested changes after the base", alone, in the order of document 01, and gives
@@ -763,6 +763,55 @@ def verdict(first, last, names, name_ends, leaves, leaf_ends, levels, indexes, p
     counts = [sum(docid in listed for docid in run) for listed in lists]
     in_none = sum(all(docid not in listed for listed in lists) for docid in run)
     return ACCEPTED, len(run), (*counts, in_none), rooms
+
+
+# The merge
+
+
+def merged_terms(by_age, keep):
+    """What the merge of leaves holds, as rising (word, entries); leaves as `parse_leaf` gives them, newest first.
+
+    Document 02, section 4: the full merge keeps live entries only. Section 6:
+    `keep` keeps deletions too.
+    """
+    decides = {}
+    for terms in reversed(by_age):
+        for word, entries, _, _ in terms:
+            for docid, found in entries:
+                decides[word, docid] = found
+    lists = {}
+    for word, docid in sorted(decides):
+        if decides[word, docid] or keep:
+            lists.setdefault(word, []).append((docid, decides[word, docid]))
+    return list(lists.items())
+
+
+def merge(columns, leaves, leaf_ends, levels, indexes, room_len, keep=False):
+    """The merge's answer: its two numbers, the level and the index of the merged leaf, and the room.
+
+    Document 02, section 4: checks 1, 3, 4; a need above 65,536 bytes is 1,
+    before 4. Section 11: the merged leaf has its newest input's pair; 0 and 0
+    when refused or when nothing is written. Section 6: `keep`.
+    """
+    empty = bytes(room_len)
+    if not columns_ok(columns) or not leaf_ends or not leaves_ok(leaves, leaf_ends):
+        return SHAPE, 0, 0, 0, empty
+    if not pairs_ok(levels, indexes, len(leaf_ends)):
+        return SHAPE, 0, 0, 0, empty
+    parsed = []
+    for place, leaf in enumerate(cut(leaves, leaf_ends)):
+        terms = parse_leaf(leaf, columns)
+        if terms is None:
+            return LEAF, place, 0, 0, empty
+        parsed.append(terms)
+    leaf = encode_leaf(merged_terms(newest_first(parsed, levels, indexes), keep))
+    if len(leaf) > MAX_LEAF_BYTES:
+        return SHAPE, 0, 0, 0, empty
+    if len(leaf) > room_len:
+        return ROOM, len(leaf), 0, 0, empty
+    pairs = list(zip(levels, indexes))
+    level, index = newest_first(pairs, levels, indexes)[0] if leaf else (0, 0)
+    return ACCEPTED, len(leaf), level, index, leaf + bytes(room_len - len(leaf))
 
 
 # The program

@@ -1,14 +1,16 @@
 #!/usr/bin/env python3
-"""The six calls of the static library against the second program, on sound, damaged and random input.
+"""The seven calls of the static library against the second program, on sound, damaged and random input.
 
     python3 tests/test_box.py [CALLS [SEED]]
 
 Inputs, rooms and numbers lie against guard pages. Leaves are lent in some order, with pairs of level and index that say their age. The report
-counts by call and answer; each answer that a call can give must be at least 1 % of its cases, and so must answers on docids below 0, lists that would be
-others if age were the order lent, and sheets with all four counts and with docids outside the run; those on the least and the largest docid at least 0.1 %.
+counts by call and answer; each answer that a call can give must be at least 1 % of its cases, and so must answers on docids below 0, lists and leaves that would
+be others if age were the order lent, sheets with all four counts and with docids outside the run, and merges that drop deletions and that leave nothing; those on
+the least and the largest docid at least 0.1 %.
 """
 import collections
 import faulthandler
+import itertools
 import random
 import sys
 
@@ -16,8 +18,9 @@ import generated
 import lending
 import query_cases
 import reference
+import search_cases
 from box import Box
-from fts4box import joined
+from fts4box import MERGE_ROOM, joined
 from generated import EDGES, LEAST_DOCID, TOP_DOCID
 from leaf_cases import MINUS_1, damaged, leaf_of_size, random_leaf
 from search_cases import NAMES, leaf_of, leaf_with
@@ -205,13 +208,18 @@ def some_names(rng):
     return rng.choice(([], [junk(rng), junk(rng)], [b"a"], [b"a", b"A", b"b"], [b"a b"], [b"c" * 33], numbered[:16], numbered))
 
 
+def lent_leaves(rng, leaves):
+    """Leaves that come newest first and their pairs, as a call takes them; now and then with no shape."""
+    data, ends, *pairs = lending.lent(rng, leaves)
+    if rng.randrange(24) == 0:
+        pairs = other_pairs(rng, *pairs)
+    return data, some_ends(rng, data, ends), *pairs
+
+
 def some_lent(rng, pool):
     """Names, leaves and their pairs, as a search takes them; now and then with no shape."""
     names, name_ends = joined(some_names(rng))
-    leaves, leaf_ends, *pairs = lending.lent(rng, some_leaves(rng, pool))
-    if rng.randrange(24) == 0:
-        pairs = other_pairs(rng, *pairs)
-    return names, some_ends(rng, names, name_ends), leaves, some_ends(rng, leaves, leaf_ends), *pairs
+    return names, some_ends(rng, names, name_ends), *lent_leaves(rng, some_leaves(rng, pool))
 
 
 def search(rng, pool):
@@ -252,6 +260,28 @@ def verdict(rng, pool):
     if rng.randrange(6) == 0:
         rooms[rng.randrange(3)] = rng.randrange(3)
     return *some_run(rng), *lent, *queries, *rooms
+
+
+def deleting(leaves):
+    """A leaf that deletes all that the sound ones among these have, or no leaf."""
+    entries = {}
+    for word, docids in itertools.chain(*map(content, leaves)):
+        entries.setdefault(word, set()).update(docids)
+    leaf = reference.encode_leaf([(word, [(docid, []) for docid in sorted(docids)]) for word, docids in sorted(entries.items())])
+    return [leaf] if leaf else []
+
+
+def some_merged(rng, pool):
+    """Leaves to be merged, newest first; now and then the newest deletes all that the others have."""
+    leaves = some_leaves(rng, pool)
+    return deleting(leaves) + leaves if rng.randrange(12) == 0 else leaves
+
+
+def merge(rng, pool):
+    columns = rng.choice((3, 3, 3, 16)) if rng.randrange(6) else some_columns(rng)
+    asked = columns, *lent_leaves(rng, some_merged(rng, pool))
+    need = reference.merge(*asked, 0)[1]
+    return *asked, rng.choice((need, need, need + 4, max(need - 1, 0), rng.randrange(400)))
 
 
 def pools(rng):
@@ -349,25 +379,79 @@ def long_rows(tally, box, rng):
     tally.check("long rows found", found > 50, True)
 
 
-MADE = {"check": check, "lookup": lookup, "deciding": deciding, "write": write, "search": search, "verdict": verdict}
+def large_merges(tally, box):
+    """The bounds of 65,536 bytes, of what is lent and of what is needed; rooms about them; many rows of one word, many words, over 8 leaves by turns."""
+    turns = [range(place, 21800, 8) for place in range(8)]
+    lists = [reference.encode_leaf([(b"w", [(docid, [(0, [0])]) for docid in docids])]) for docids in turns]
+    words = [reference.encode_leaf([(b"%05d" % word, [(-1, [(1, [3])])]) for word in words[:440]]) for words in turns]
+    groups = [[leaf_of_size(total)[0]] for total in (65535, 65536, 65537)] + [lists, words, deleting(words[:2]) + words[:4]]
+    groups += [lending.grown_leaves(need) for need in (65535, 65536, 65537, 70000)]
+    over = groups[-1]
+    # a broken leaf comes before the need; a deletion makes it smaller
+    groups += [[over[0], over[1][:-1]], [over[0][1:], over[1]], [*over, b""], [reference.encode_leaf([(b"z", [(1, [])])]), *lending.grown_leaves(65537)]]
+    for leaves in groups:
+        need = lending.merged_size(leaves) if all(map(content, leaves)) else 0
+        for pairs in (search_cases.ONE_LEVEL[:len(leaves)], [(7, 7)] * len(leaves)):
+            for room in {0, max(need - 1, 0), need, need + 1, MERGE_ROOM, 100000}:
+                asked = 3, *lending.as_lent(leaves, pairs), room
+                tally.check("merge of %d leaves, need %d, room %d" % (len(leaves), need, room), box.merge(*asked), reference.merge(*asked))
+
+
+def merged_leaf(tally, box, lent):
+    """What a merge of sound leaves writes, as it is lent: with its pair, and no leaf where it is empty."""
+    number, size, level, index, room = box.merge(len(NAMES), *lent, MERGE_ROOM)
+    tally.check("a merge of sound leaves", number, 0)
+    return lending.as_lent([room[:size]] if size else [], [(level, index)] if size else [])
+
+
+def merges_alike(tally, box, rng, pool):
+    """By the box alone: a merged leaf is sound and is its own merge; every query lists the same before and after; where the oldest leaves are merged first, and
+    their merge with the newer ones, the leaf and its pair are the same."""
+    counts = collections.Counter()
+    for leaves in pool:
+        if not leaves:
+            continue
+        pairs = lending.some_pairs(rng, len(leaves))
+        lent = lending.mixed(rng, leaves, pairs)
+        one = merged_leaf(tally, box, lent)
+        counts["merged"] += 1
+        counts["left"] += bool(one[0])
+        if one[0]:
+            tally.check("check of a merged leaf", box.check(one[0], len(NAMES)), (0, 0))
+            tally.check("its own merge", merged_leaf(tally, box, one), one)
+        at = rng.randrange(len(leaves))
+        oldest, _, *pair = merged_leaf(tally, box, lending.as_lent(leaves[at:], pairs[at:]))
+        parts, dated = leaves[:at] + [oldest] * bool(oldest), pairs[:at] + list(zip(*pair))
+        tally.check("the oldest merged first", merged_leaf(tally, box, lending.mixed(rng, parts, dated)) if parts else lending.as_lent([], []), one)
+        for query in (generated.some_query(rng) for _ in range(12)):
+            before, after = (box.search(*joined(NAMES), *index, query, ENOUGH) for index in (lent, one))
+            tally.check("%r before and after" % query, after, before)
+            counts["lists"] += before[0] == 0 and before[1] > 0
+    tally.check("merges and lists: %s" % dict(counts), counts["left"] * 2 > counts["merged"] > 100 and counts["lists"] > counts["merged"], True)
+
+
+MADE = {"check": check, "lookup": lookup, "deciding": deciding, "write": write, "search": search, "verdict": verdict, "merge": merge}
 SECOND = {
     "check": reference.check_leaf, "lookup": reference.lookup, "deciding": reference.deciding, "write": reference.write_leaf,
-    "search": reference.search, "verdict": reference.verdict,
+    "search": reference.search, "verdict": reference.verdict, "merge": reference.merge,
 }
 POSSIBLE = {
     "check": (0, 1, 3), "lookup": (0, 1, 3), "deciding": (0, 1, 3), "write": (0, 1, 4, 5), "search": (0, 1, 2, 3, 4), "verdict": (0, 1, 2, 3, 4, 7),
+    "merge": (0, 1, 3, 4),
 }
 # where the levels stand among the arguments of a call that takes an index
-LEVELS_AT = {"search": 4, "verdict": 6}
+LEVELS_AT = {"search": 4, "verdict": 6, "merge": 3}
 # A check has nothing beside its answer; of the other calls' accepted cases some must find, write or list something.
 NOT_EMPTY = "0 and not empty"
 # What is found, written or listed has a docid below 0; the least one; the largest one.
 BELOW, LEAST, LARGEST = "0 and below 0", "0 and the least docid", "0 and the largest docid"
-WITH_DOCIDS = "deciding", "write", "search", "verdict"
-# The answer is not that of the leaves as they are lent, were these newest first.
+WITH_DOCIDS = "deciding", "write", "search", "verdict", "merge"
+# The rooms are not those of the leaves as they are lent, were these newest first.
 BY_AGE = "0 and by age"
 # Rows in each list and rows in none; listed docids that are not of the run; a docid below 0 in two lists.
 ALL_COUNTS, OUTSIDE, TWO_BELOW = "0 and all four counts", "0 and docids outside", "7 and below 0"
+# A merge of several leaves; one that drops deletions; one of which nothing is left.
+SEVERAL, DROPPED, NOTHING = "0 and several leaves", "0 and deletions dropped", "0 and nothing left"
 
 
 def in_run(asked, docids):
@@ -381,6 +465,8 @@ def docids_of(name, asked, got):
         return [docid for room, count in zip(got[3], got[2]) for docid in in_run(asked, room)[:count]]
     if got[0] != 0 or got[1] == 0:
         return []
+    if name == "merge":
+        return [docid for _, docids in content(got[4][:got[1]]) for docid in docids]
     return got[2][:got[1]] if name == "search" else [asked[0] if name == "write" else asked[4]]
 
 
@@ -388,7 +474,7 @@ def by_age(name, asked, got):
     """Whether the pairs decide what is answered."""
     at = LEVELS_AT[name]
     count = len(asked[at])
-    return got[0] == 0 and SECOND[name](*asked[:at], list(range(count)), [0] * count, *asked[at + 2:]) != got
+    return got[0] == 0 and SECOND[name](*asked[:at], list(range(count)), [0] * count, *asked[at + 2:])[-1] != got[-1]
 
 
 def counted(counts, name, asked, got):
@@ -406,13 +492,17 @@ def counted(counts, name, asked, got):
         listed = [docid for room in got[3] for docid in room if docid != 0]
         counts[OUTSIDE] += len(in_run(asked, listed)) < len(listed)
         counts[TWO_BELOW] += got[0] == reference.TWO_VERDICTS and got[1] < 0
+    if name == "merge" and got[0] == 0:
+        counts[SEVERAL] += len(asked[3]) > 1
+        counts[DROPPED] += reference.merge(*asked, keep=True)[1] != got[1]
+        counts[NOTHING] += got[1] == 0
 
 
 def kinds_of(name):
     if name == "check":
         return POSSIBLE[name]
     kinds = *POSSIBLE[name], NOT_EMPTY, *((BELOW, LEAST, LARGEST) if name in WITH_DOCIDS else ()), *((BY_AGE,) if name in LEVELS_AT else ())
-    return *kinds, *((ALL_COUNTS, OUTSIDE, TWO_BELOW) if name == "verdict" else ())
+    return *kinds, *((ALL_COUNTS, OUTSIDE, TWO_BELOW) if name == "verdict" else (SEVERAL, DROPPED, NOTHING) if name == "merge" else ())
 
 
 def report(tally, counts):
@@ -438,6 +528,8 @@ def main(words):
     many_lists(tally, box)
     full_runs(tally, box)
     long_rows(tally, box, random.Random(seed))
+    large_merges(tally, box)
+    merges_alike(tally, box, random.Random(seed), pools(random.Random(seed)))
     for i in range(calls):
         if i % 20000 == 0:
             pool = pools(rng)

@@ -146,6 +146,7 @@ def python_calls(tally):
     for level, index in ((0, 0), (2**32 - 1, 0), (0, 2**32 - 1)):
         tally.check("and numbers", fts4box.search(library, [b"node"], [leaf], [level], [index], b"x"), (0, 1, [7]))
     python_sheets(tally, library, leaf)
+    python_merges(tally, library, leaf)
 
 
 def python_sheets(tally, library, leaf):
@@ -179,23 +180,47 @@ def python_sheets(tally, library, leaf):
         tally.check("a sheet about 0, %s" % (run,), fts4box.verdict(library, *run, [b"node"], [around_0], [0], [0], b"x", b"y", b"z"), expected)
 
 
-# the calls of version 1.5; a library before it has the same names
-VERSION_1_5 = "".join("void %s(void) {}\n" % name for name in ("fts4_check", "fts4_lookup", "fts4_deciding", "fts4_write", "fts4_search"))
+def python_merges(tally, library, leaf):
+    """A merge from Python: what has not 32 bits or is no bytes is not taken; the leaf comes without the zeros after it."""
+    for asked, said in (
+        *(((number, [leaf], [0], [0]), "a number from 0") for number in (-1, 2**32, 1.0, "1", None, True)), ((1, ["x"], [0], [0]), "bytes are wanted"),
+        ((1, [leaf], [2**32], [0]), "a number from 0"), ((1, [leaf], [0], [-1]), "a number from 0"),
+    ):
+        try:
+            fts4box.merge(library, *asked)
+            tally.fail("taken: %r" % (asked,))
+        except TypeError as error:
+            tally.check("what is said of %r" % (asked,), said in str(error), True)
+    later, gone = b"\0\1x\3\x09\2\0", b"\0\1x\2\7\0"
+    for asked, expected in (
+        ((1, [leaf], [3], [4]), (0, 7, 3, 4, leaf)), ((1, [leaf], [3], [4], 7), (0, 7, 3, 4, leaf)), ((1, [leaf], [3], [4], 6), (4, 7, 0, 0, b"")),
+        ((1, [leaf, later], [0, 0], [0, 1]), (0, 10, 0, 1, b"\0\1x\6\7\2\0\2\2\0")), ((1, [gone, leaf], [0, 1], [0, 0]), (0, 0, 0, 0, b"")),
+        ((1, [gone, leaf], [1, 0], [0, 0]), (0, 7, 0, 0, leaf)), ((1, [], [], []), (1, 0, 0, 0, b"")), ((17, [leaf], [0], [0]), (1, 0, 0, 0, b"")),
+        ((1, [leaf, leaf], [2, 2], [5, 5]), (1, 0, 0, 0, b"")), ((1, [leaf, leaf[1:]], [0, 1], [0, 0]), (3, 1, 0, 0, b"")),
+    ):
+        tally.check("a merge of %r" % (asked,), fts4box.merge(library, *asked), expected)
+
+
+# the first call that a library of this version lacks; one before 1.5 has the same names as that
+LACKING = {"1.5": "fts4_verdict", "1.6": "fts4_merge"}
 
 
 def other_version(tally):
-    """A library before version 1.6 is noticed before anything is asked of it."""
-    with tempfile.TemporaryDirectory() as place:
-        source, compiled, archive = (os.path.join(place, name) for name in ("calls.c", "calls.o", "calls.a"))
-        with open(source, "w", encoding="ascii") as f:
-            f.write(VERSION_1_5)
-        subprocess.run(["cc", "-fPIC", "-Wall", "-Wextra", "-Werror", "-c", "-o", compiled, source], check=True)
-        subprocess.run(["ar", "rc", archive, compiled], check=True)
-        try:
-            fts4box.load(archive)
-            tally.fail("a library of version 1.5 is taken")
-        except fts4box.NoLibrary as error:
-            tally.check("what is said: %s" % error, [part for part in (archive, "another version", "rt staticlib fts4box") if part not in str(error)], [])
+    """A library before version 1.7 is noticed before anything is asked of it."""
+    names = list(fts4box.CALLS)
+    for version, lacking in LACKING.items():
+        with tempfile.TemporaryDirectory() as place:
+            source, compiled, archive = (os.path.join(place, name) for name in ("calls.c", "calls.o", "calls.a"))
+            with open(source, "w", encoding="ascii") as f:
+                f.write("".join("void %s(void) {}\n" % name for name in names[:names.index(lacking)]))
+            subprocess.run(["cc", "-fPIC", "-Wall", "-Wextra", "-Werror", "-c", "-o", compiled, source], check=True)
+            subprocess.run(["ar", "rc", archive, compiled], check=True)
+            try:
+                fts4box.load(archive)
+                tally.fail("a library of version %s is taken" % version)
+            except fts4box.NoLibrary as error:
+                parts = archive, "another version", "rt staticlib fts4box"
+                tally.check("what is said of version %s: %s" % (version, error), [part for part in parts if part not in str(error)], [])
 
 
 def main():

@@ -16,13 +16,14 @@ from tally import Tally
 SCRIPT = os.path.join(paths.TOOLS, "dist.sh")
 NAME = "fts4box-" + header.VERSION
 FILES = [
-    "SHA256SUMS", "docs/GUARANTEES.md", "docs/REFERENCE.md", "examples/folder.c", "examples/search.c", "examples/verdict.c", "include/fts4box.h",
-    "lib/libfts4box.a", "lib/pkgconfig/fts4box.pc",
+    "SHA256SUMS", "docs/GUARANTEES.md", "docs/REFERENCE.md", "examples/folder.c", "examples/merge.c", "examples/search.c", "examples/verdict.c",
+    "include/fts4box.h", "lib/libfts4box.a", "lib/pkgconfig/fts4box.pc",
 ]
 STRICT = ["-std=c99", "-Wall", "-Wextra", "-Werror", "-Wpedantic"]
 ROW = [b"n12", b"probe", b"reply reply"]
 EXPECTED = "docs 1\n7\n"
 SHEET = "rows 4\npassed 1\n7\nfailed 1\n8\nsilent 1\n9\nnone 1\n"
+MERGED = "bytes 34 level 0 index 1\n00 04 6C 61 74 65 05 07 01 02 02 00 00 03 6E 31 32 03 07 02 00 00 05 70 72 6F 62 65 05 07 01 01 02 00\n"
 
 
 def ran(*command, **how):
@@ -73,7 +74,7 @@ def flags(tally, tree):
 
 def examples(tally, tree, export):
     for what, words in flags(tally, tree):
-        for name, arguments, expected in (("search", [], EXPECTED), ("folder", [export, "reply"], EXPECTED), ("verdict", [], SHEET)):
+        for name, arguments, expected in (("search", [], EXPECTED), ("folder", [export, "reply"], EXPECTED), ("verdict", [], SHEET), ("merge", [], MERGED)):
             # the library must come after the source that needs it
             build = ["cc", *STRICT, "-o", name, os.path.join("examples", name + ".c"), *words]
             if tally.check("build of %s, %s" % (name, what), ran(*build, cwd=tree), (0, "")):

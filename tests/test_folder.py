@@ -142,7 +142,7 @@ def same_meaning(place):
     """What says nothing about the search may be otherwise; so may levels and indexes that leave the ages as they are."""
     for old, new in (
         ("database bench.db", "database another one.db"), ("table probes", "table p"), ("sqlite 3.40.1", "sqlite 3.41.0"),
-        ("time 2026-11-16T01:55:00Z", "time 2027-01-01T00:00:00Z"), ("prepared no", "prepared optimize"), ("prepared no", "prepared rebuild"),
+        ("time 2026-11-16T01:55:00Z", "time 2027-01-01T00:00:00Z"), *(("prepared no", "prepared " + done) for done in ("optimize", "rebuild", "merge", "optimize+merge", "rebuild+merge")),
         ("start 0", "start 9223372036854775807"), ("level 1", "level 4294967295"), ("index 1", "index 4294967295"),
     ):
         place.changed("no difference", listing(FOUND), old, new)
@@ -154,7 +154,7 @@ def bad_values(place):
     bad = {
         "fts4box export 1": ["fts4box export 2", "fts4box export 1 "],
         "database bench.db": ["database", "database ", "Database bench.db"],
-        "prepared no": ["prepared yes", "prepared "],
+        "prepared no": ["prepared " + done for done in ("yes", "", "no+merge", "merge+merge", "merge+optimize", "optimize+", "+merge", "optimize merge", "mergex")],
         "columns 3": ["columns " + text for text in ("0", "2", "4", "17", "03", "+3", "-3", " 3", "3 ", "three")],
         "column sent": ["column ", "column " + "s" * 33],
         "leaves 3": ["leaves 0", "leaves 2", "leaves 4", "leaves 9", "leaves 18446744073709551619", "leaves 0x3"],

@@ -18,7 +18,7 @@ import reference as ref
 import sqlite_differences as differences
 from generated import LEAST_DOCID, TOP_DOCID, any_docid
 from leaf_format import MAX_U32
-from lending import telling_leaves, told
+from lending import grown_leaves, telling_leaves, told
 
 SEED = 20240607
 NAMES = [b"node", b"sent", b"outcome"]
@@ -898,6 +898,168 @@ def enough(what, answers):
     check("%s: %s" % (what, dict(answers)), (few, answers["compared"] > 500), ([], True))
 
 
+# The merge (document 02, sections 4 and 11; section 6 for `keep`)
+
+
+def merge(leaves, room_len=65536, pairs=None, columns=3, keep=False):
+    """A merge; without pairs the leaves come newest first."""
+    if pairs is None:
+        pairs = [(place, 0) for place in range(len(leaves))]
+    levels, indexes = [level for level, _ in pairs], [index for _, index in pairs]
+    return ref.merge(columns, b"".join(leaves), ends_of(leaves), levels, indexes, room_len, keep)
+
+
+def merged(leaves, pairs=None, keep=False):
+    """What an accepted merge writes, and its pair."""
+    number, beside, level, index, room = merge(leaves, 65536, pairs, keep=keep)
+    return (room[:beside], (level, index)) if number == 0 else (number, beside)
+
+
+def not_merged(number, beside, room_len):
+    """A refused merge: zeros everywhere but in its two numbers."""
+    return number, beside, 0, 0, bytes(room_len)
+
+
+def lists_leaf(lists):
+    """A leaf with these lists of entries."""
+    return ref.encode_leaf(sorted(lists.items()))
+
+
+PLACE = [(0, [0])]
+
+
+def test_merge():
+    """What is kept and what is dropped, by hand."""
+    check("P12 alone", merged([P12]), (P12, (0, 0)))
+    check("P12 alone", merged([P12], [(3, 9)], keep=True), (P12, (3, 9)))
+    old = {b"late": [(9, PLACE)], b"reply": [(7, [(2, [0, 1])]), (9, [(0, [3])])]}
+    gone = {b"reply": [(7, [])], b"timeout": [(9, [(2, [0])])]}
+    lent = [lists_leaf(gone), lists_leaf(old)]
+    check("a deletion", merged(lent)[0], lists_leaf({**old, **gone, b"reply": [(9, [(0, [3])])]}))
+    check("a deletion that is kept", merged(lent, keep=True)[0], lists_leaf({**old, **gone, b"reply": [(7, []), (9, [(0, [3])])]}))
+    check("a deletion that is older", merged(lent[::-1])[0], lists_leaf({**gone, **old}))
+    only = lists_leaf({b"a": [(7, [])], b"b": [(7, PLACE)], b"c": [(-1, []), (7, [])]})
+    check("words with only deletions", merged([only])[0], lists_leaf({b"b": [(7, PLACE)]}))
+    check("words with only deletions", merged([only], keep=True)[0], only)
+    away = lists_leaf({b"b": [(7, [])]})
+    check("all deleted", merge([away, only], 2, [(4, 5), (4, 4)]), (0, 0, 0, 0, bytes(2)))
+    check("all deleted, no room", merge([away, only], 0), (0, 0, 0, 0, b""))
+    check("only deletions", merge([away], 0, [(4, 5)]), (0, 0, 0, 0, b""))
+    sides = [lists_leaf({b"w": [(docid, PLACE) for docid in docids]}) for docids in ((0, TOP_DOCID), (LEAST_DOCID, -1), (LEAST_DOCID, -1, 0, TOP_DOCID))]
+    check("docids on both sides of 0", [merged(sides[:2])[0], merged(sides[1::-1])[0]], [sides[2]] * 2)
+    for order in itertools.permutations(zip((*lent, only), ((0, 5), (0, 4), (2, 9)))):
+        check("any order", merged(*zip(*order)), (merged([*lent, only])[0], (0, 5)))
+
+
+def test_merge_shapes():
+    """Number 1, number 3 in the order lent, rooms, and the newest pair."""
+    for columns in (-1, 0, 17, 2**32 - 1):
+        check("columns", merge([P12], 3, columns=columns), not_merged(1, 0, 3))
+    check("columns", merge([P12], 3, columns=2), not_merged(3, 0, 3))
+    check("columns", merge([P12], columns=16)[:4], (0, 36, 0, 0))
+    check("no leaf", merge([], 3), not_merged(1, 0, 3))
+    for ends in ([35], [37], [36, 35], [35, 37], []):
+        check("ends %s" % ends, ref.merge(3, P12, ends, [0] * len(ends), list(range(len(ends))), 3), not_merged(1, 0, 3))
+    check("8 leaves", merged([P12] * 8), (P12, (0, 0)))
+    check("9 leaves", merge([P12] * 9, 3), not_merged(1, 0, 3))
+    check("65,536 bytes", merge([P12, bytes(65500)], 3), not_merged(3, 1, 3))
+    check("65,537 bytes", merge([P12, bytes(65501)], 3), not_merged(1, 0, 3))
+    for levels, indexes in (([], []), ([0], [0]), ([0, 1], [0]), ([0], [0, 1]), ([0, 1, 2], [0, 1]), ([0, 1, 2], [0, 1, 2]), ([3, 3], [4, 4])):
+        check("pairs", ref.merge(3, P12 * 2, [36, 72], levels, indexes, 3), not_merged(1, 0, 3))
+    for pair in itertools.product((0, MAX_U32), repeat=2):
+        check("one pair", merged([P12], [pair]), (P12, pair))
+    check("the newest pair", merged([P12] * 4, [(1, 9), (1, 8), (MAX_U32, MAX_U32), (2, 0)])[1], (1, 9))
+    for count in range(1, 9):
+        for bad in range(count):
+            lent = [P12[1:] if place in (bad, count - 1) else P12 for place in range(count)]
+            for pairs in ([(place, 0) for place in range(count)], [(count - place, 0) for place in range(count)]):
+                check("broken at %d of %d" % (bad, count), merge(lent, 3, pairs), not_merged(3, bad, 3))
+    for room_len in (0, 35, 36, 40):
+        expected = (0, 36, 2, 3, P12 + bytes(room_len - 36)) if room_len >= 36 else not_merged(4, 36, room_len)
+        check("room %d" % room_len, merge([P12], room_len, [(2, 3)]), expected)
+
+
+def test_merge_needs():
+    """A merge may have more bytes than its leaves: up to 65,536 they are its need, above it is refused by 1 whatever the room."""
+    full, over = grown_leaves(65536), grown_leaves(65537)
+    check("all is lent", max(len(b"".join(leaves)) for leaves in (full, over)) < 60000, True)
+    check("need 65,536", merge(full)[:4], (0, 65536, 0, 0))
+    check("need 65,536", found([merge(full)[4]], b"1234"), [LEAST_DOCID, 1])
+    check("need 65,536", merge(full, 65535), not_merged(4, 65536, 65535))
+    for room_len in (0, 65536, 65537, 70000):
+        check("need above 65,536", merge(over, room_len), not_merged(1, 0, room_len))
+        check("3 before it", merge([over[0], over[1][:-1]], room_len), not_merged(3, 1, room_len))
+
+
+def positions_of(leaves):
+    """How many live positions there are for each word, docid and column, newest leaf first, by trying every place."""
+    rows = grid_of(leaves, 3).items()
+    return collections.Counter((word, docid, column) for docid, row in rows for (column, _), words in row.items() for word in words)
+
+
+def deletions_of(leaves):
+    """A leaf that deletes all that stands in leaves of small docids."""
+    words = sorted({word for leaf in leaves for word, _, _, _ in ref.parse_leaf(leaf, 3)})
+    return ref.encode_leaf([(word, [(docid, []) for docid in range(-6, 6)]) for word in words])
+
+
+def test_merge_exhaustive(rng):
+    """Random merges: the live positions are the same, all entries are live, and every query lists the same."""
+    counts = collections.Counter()
+    for _ in range(300):
+        leaves = [ref.encode_leaf(random_leaf(rng, 3, True)) for _ in range(rng.randrange(1, 6))]
+        if rng.randrange(6) == 0:
+            leaves.insert(0, deletions_of(leaves))
+        leaf, _ = merged(leaves)
+        one = [leaf] if leaf else []
+        check("positions", positions_of(one), positions_of(leaves))
+        parsed = ref.parse_leaf(leaf, 3) if leaf else []
+        check("live entries only", parsed is not None and all(columns for _, entries, _, _ in parsed for _, columns in entries), True)
+        for _ in range(4):
+            query = random_query(rng, [b"a", b"b", b"ab", b"ba"], NAMES)
+            listed = found(leaves, query)
+            check("the same list", found(one, query), listed)
+            counts["lists"] += bool(listed)
+        counts["nothing left"] += not leaf
+        counts["several"] += len(leaves) > 1 and bool(leaf)
+    check("merges of each kind: %s" % dict(counts), min(counts[kind] for kind in ("lists", "nothing left", "several")) > 20, True)
+
+
+def some_ages(rng, count):
+    """So many pairs, newest first."""
+    pairs = rng.sample([(level, index) for level in range(3) for index in range(8)], count)
+    return sorted(pairs, key=lambda pair: (pair[0], -pair[1]))
+
+
+def merged_all(dated, keep=False):
+    """The merge of leaves with their pairs; that of none is nothing."""
+    return merged(*zip(*dated), keep) if dated else (b"", (0, 0))
+
+
+def test_merge_groups(rng):
+    """The oldest merged first, then with the newer ones, are the merge of all; so is a merge after any keeping merges of neighbours."""
+    counts = collections.Counter()
+    for _ in range(300):
+        pairs = some_ages(rng, rng.randrange(1, 7))
+        dated = [(ref.encode_leaf(random_leaf(rng, 3, True)), pair) for pair in pairs]
+        whole, kept = merged_all(dated), merged_all(dated, True)
+        old = dated[rng.randrange(len(dated)):]
+        oldest = merged_all(old)
+        check("the oldest first", merged_all(dated[:-len(old)] + [oldest] * (oldest[0] != b"")), whole)
+        check("by itself", [merged_all([one]) for one in (whole, oldest) if one[0]], [one for one in (whole, oldest) if one[0]])
+        joined = list(dated)
+        while len(joined) > 1 and rng.randrange(8):
+            at, size = rng.randrange(len(joined) - 1), rng.choice((1, 2, 2, 3))
+            joined[at:at + size] = [merged_all(joined[at:at + size], True)]
+        rng.shuffle(joined)
+        check("after keeping merges", merged_all(joined), whole)
+        check("keeping merges", merged_all(joined, True), kept)
+        counts["joined"] += len(joined) < len(dated)
+        counts["deletions"] += kept != whole
+        counts["deletions among the oldest"] += 1 < len(old) and oldest[0] != merged_all(old, True)[0]
+    check("groups of each kind: %s" % dict(counts), len(counts) == 3 and min(counts.values()) > 60, True)
+
+
 # The program
 
 
@@ -938,6 +1100,7 @@ def test_any_input(rng):
         check("junk", verdict((6, 8), [P12], (junk, junk[1:], junk[2:]))[0] in (0, 2, 7), True)
         check("junk", ref.write_leaf(1, junk, ends, 9)[0] in (0, 1, 4), True)
         check("junk", ref.lookup(junk, 3, junk)[0] in (0, 1, 3), True)
+        check("junk", ref.merge(3, junk, ends, ends, ends[::-1], 9)[0] in (0, 1, 3, 4), True)
 
 
 def test_time():
@@ -1195,6 +1358,66 @@ def test_sqlite_verdict(rng, vocabulary):
           % (sqlite3.sqlite_version, answers["compared"], answers[0], answers["all four counts"], answers["docids outside"], answers[7]))
 
 
+def with_wordless_row(rng, connection, vocabulary):
+    """A table with a row that has no word: where all others are deleted, it keeps SQLite from clearing the index."""
+    connection.execute("insert into t(docid, node) values(100, '.')")
+    change_table(rng, connection, vocabulary, rng.randrange(1, 4), chance=0)
+    if rng.randrange(2):
+        connection.execute("delete from t where docid <> 100")
+
+
+def merged_table(rng, vocabulary, number):
+    """A table to be merged: of a few transactions, of several levels, or with a row without words."""
+    if number % 4 == 0:
+        return table_of_levels(rng, vocabulary, True)
+    connection = new_table()
+    if number % 4 == 1:
+        with_wordless_row(rng, connection, vocabulary)
+    else:
+        change_table(rng, connection, vocabulary, rng.randrange(1, 9), chance=0.02)
+    return connection
+
+
+def after(connection, command):
+    """The leaves once SQLite has done this: at most one is expected."""
+    connection.execute("insert into t(t) values(?)", [command])
+    return [leaf for _, _, leaf in table_leaves(connection)]
+
+
+def test_sqlite_merge(rng, vocabulary):
+    """The merge of all segments is, byte for byte, what `optimize` makes of them, and what `rebuild` makes of the rows; MATCH lists the same before and after.
+
+    `optimize` leaves a segment that is alone as it is, deletions too."""
+    counts = collections.Counter()
+    for number in range(160):
+        connection = merged_table(rng, vocabulary, number)
+        leaves = table_leaves(connection)
+        if not leaves:
+            connection.close()
+            continue
+        lent, pairs = lent_in_some_order(rng, leaves)
+        leaf, pair = merged(lent, pairs)
+        queries = [query for query in (random_query(rng, vocabulary, NAMES) for _ in range(6)) if ref.read_query(query, NAMES) is not None]
+        before = [sqlite_docids(connection, differences.written_out(query)) for query in queries]
+        theirs = after(connection, "optimize")
+        check("the newest pair", pair, min(pairs, key=lambda pair: (pair[0], -pair[1])) if leaf else (0, 0))
+        check("optimize", [leaf] if leaf and len(leaves) > 1 else lent if len(leaves) == 1 else [], theirs)
+        for query, listed in zip(queries, before):
+            check("merged %r" % query, found([leaf] if leaf else [], query), listed)
+            check("optimized %r" % query, sqlite_docids(connection, differences.written_out(query)), listed)
+        check("rebuild", [leaf] if leaf else [], after(connection, "rebuild"))
+        counts["tables"] += 1
+        counts["of several segments"] += len(leaves) > 1
+        counts["of several levels"] += len({level for level, _, _ in leaves}) > 1
+        counts["with deletions"] += len(leaf) < len(merged(lent, pairs, keep=True)[0])
+        counts["with nothing left"] += not leaf
+        counts["queries that list docids"] += sum(bool(listed) for listed in before)
+        connection.close()
+    few = [what for what, n in counts.items() if n * 10 < counts["tables"]]
+    check("tables to merge of each kind: %s" % dict(counts), (few, len(counts)), ([], 6))
+    print("SQLite %s, optimize and rebuild: %s" % (sqlite3.sqlite_version, ", ".join("%d %s" % (n, what) for what, n in counts.items())))
+
+
 def test_sqlite(rng):
     """Comparisons with SQLite, which must have the enhanced syntax."""
     enhanced = sqlite_has_enhanced_syntax()
@@ -1206,6 +1429,7 @@ def test_sqlite(rng):
     test_sqlite_search(rng, vocabulary)
     test_sqlite_levels(rng, vocabulary)
     test_sqlite_verdict(rng, vocabulary)
+    test_sqlite_merge(random.Random(SEED), vocabulary)
 
 
 def main():
@@ -1229,6 +1453,11 @@ def main():
     test_two_verdicts()
     test_verdict_order()
     test_verdict_exhaustive(random.Random(SEED))
+    test_merge()
+    test_merge_shapes()
+    test_merge_needs()
+    test_merge_exhaustive(random.Random(SEED))
+    test_merge_groups(random.Random(SEED))
     test_program()
     test_any_input(random.Random(SEED))
     test_time()

@@ -10,7 +10,7 @@ import lending
 import paths
 import sqlite_differences as differences
 from box import Box
-from fts4box import joined, search, verdict
+from fts4box import MERGE_ROOM, joined, merge, search, verdict
 from tally import Tally
 
 PAGE = os.path.join(paths.ROOT, "docs", "REFERENCE.md")
@@ -108,21 +108,50 @@ def leaf_of_table(tally, page, count):
     return leaf
 
 
-def change(tally, library, box, page):
-    """The leaf of one row; a row changed with and without the deletion of what it had."""
+def leaves_of_page(tally, box, page):
+    """The leaves that the page names: of one row, and of the same row changed with and without the deletion of what it had; of its deletion; one that is broken."""
     old, new = folders.written(box, DOCID, OLD_ROW), folders.written(box, DOCID, NEW_ROW)
     changed = leaf_of_table(tally, page, 1)
     tally.check("the leaf of one row", leaf_of_table(tally, page, 0), old)
     tally.check("the leaf with a deletion is the written one and a word", (changed[:len(new)], box.check(changed, COLUMNS)), (new, (0, 0)))
-    named = {"old": old, "without deletion": new, "with deletion": changed}
+    gone = b"\0" + b"\0".join(bytes([len(word)]) + word + b"\2\7\0" for word in (b"n12", b"probe", b"reply"))
+    return {"old": old, "without deletion": new, "with deletion": changed, "gone": gone, "cut short": old[:-1]}
+
+
+def lent_of(tally, named, cell):
+    """Leaves, levels and indexes of a cell."""
+    if cell == "(none)":
+        return [], [], []
+    found = LENT.findall(cell)
+    tally.check("what is no leaf in %s" % cell, (LENT.sub("", cell), found != []), ("", True))
+    return [named[name] for name, _, _ in found], [int(level) for _, level, _ in found], [int(index) for _, _, index in found]
+
+
+def change(tally, library, page, named):
+    """A row changed with and without the deletion of what it had."""
     for row in page.table("| lent, each with level/index | `reply` lists | `late` lists |", 0):
-        found = LENT.findall(row[0])
-        tally.check("what is no leaf in %s" % row[0], (LENT.sub("", row[0]), found != []), ("", True))
-        leaves, levels, indexes = [named[name] for name, _, _ in found], [int(level) for _, level, _ in found], [int(index) for _, _, index in found]
-        for query, cell in zip((b"reply", b"late"), row[1:]):
-            docids = numbers(cell)
-            answer = search(library, NAMES, leaves, levels, indexes, query, SEARCH_ROOM)
-            tally.check("%r in %s" % (query, row[0]), answer, (0, len(docids), docids))
+        lists(tally, library, row[0], lent_of(tally, named, row[0]), row[1:])
+
+
+def lists(tally, library, what, lent, cells):
+    """The docids of `reply` and of `late` are those of two cells."""
+    for query, cell in zip((b"reply", b"late"), cells):
+        docids = numbers(cell)
+        tally.check("%r in %s" % (query, what), search(library, NAMES, *lent, query, SEARCH_ROOM), (0, len(docids), docids))
+
+
+def merges(tally, library, page, named):
+    """Each merge: its numbers, its pair, the leaf where the page names it, and what is listed before and after."""
+    for cell, number, beside, pair, reply, late, leaf in page.table("| lent, each with level/index | answer | beside | level/index | `reply` lists | `late` lists | the leaf written |", 0):
+        lent = lent_of(tally, named, cell)
+        *got, level, index, data = merge(library, COLUMNS, *lent, MERGE_ROOM)
+        tally.check("merge of %s" % cell, (got, "%d/%d" % (level, index)), ([int(number), int(beside)], pair))
+        if number != "0":
+            continue
+        if leaf:
+            tally.check("the leaf of %s" % cell, data, named.get(leaf, b""))
+        for what in (lent, ([data], [level], [index]) if data else ([], [], [])):
+            lists(tally, library, cell, what, (reply, late))
 
 
 def lent_rows(box, page):
@@ -193,6 +222,8 @@ def shapes(tally, box):
     queries_and_rooms = b"a", b"b", b"c", 0, 0, 0
     runs = [(1, 0), (0, -1), (1, 4097), (-4096, 0), (2**63 - 1, -2**63), (-2**63, 2**63 - 1)]
     asked["verdict"] = [(*run, *names, *lent, *queries_and_rooms) for run in runs] + [(1, 9, *case[:6], *queries_and_rooms) for case in asked["search"]]
+    asked["merge"] = [(columns, *lent, 0) for columns in (0, 17)] + [(COLUMNS, *case[2:6], 0) for case in asked["search"] if case[:2] == names]
+    asked["merge"] += [(COLUMNS, b"", [], [], [], 0), *((COLUMNS, *lending.in_order(lending.grown_leaves(65537)), room) for room in (0, 65537))]
     for name, cases in asked.items():
         for case in cases:
             tally.check("shape of %s %.80r" % (name, case), getattr(box, name)(*case)[:2], (1, 0))
@@ -222,7 +253,9 @@ def main():
     macros(tally, page)
     stored_numbers(tally, box, page)
     posting_lists(tally, box, page)
-    change(tally, library, box, page)
+    named = leaves_of_page(tally, box, page)
+    change(tally, library, page, named)
+    merges(tally, library, page, named)
     query_tables(tally, library, box, page)
     sheets(tally, library, box, page)
     sqlite_tables(tally, library, box, page)

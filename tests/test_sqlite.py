@@ -4,7 +4,8 @@
     python3 tests/test_sqlite.py [TABLES [SEED]]
 
 The leaves come from tools/export_leaves.py, each with its level and index, and are lent in another order for each query. What both accept is
-compared exactly; what is left out stands in tests/sqlite_differences.py. A verdict sheet is held against three MATCH queries and SQLite's own counts.
+compared exactly; what is left out stands in tests/sqlite_differences.py. A verdict sheet is held against three MATCH queries and SQLite's own counts. The merge
+of a table's leaves is held, byte for byte, against what SQLite's `optimize` makes of its segments and `rebuild` of its rows, and searched.
 """
 import collections
 import itertools
@@ -22,10 +23,10 @@ import lending
 import reference
 import sqlite_differences as differences
 from box import Box
-from fts4box import joined
+from fts4box import MERGE_ROOM, joined
 from tally import Tally
 
-TABLES, QUERIES, SHEETS, SEED = 100, 100, 20, 20267
+TABLES, QUERIES, SHEETS, MERGED, SEED = 100, 100, 20, 10, 20267
 ROOM = 1024
 
 
@@ -146,6 +147,55 @@ def compare_sheets(rng, tally, counts, box, base, names, leaves):
         counts["sheets with a row in two lists"] += answer[0] == reference.TWO_VERDICTS
 
 
+def merged(rng, tally, box, leaves):
+    """The leaf that the box makes of these, or no bytes; its pair is the newest one's."""
+    number, size, *pair, room = box.merge(3, *in_some_order(rng, leaves), MERGE_ROOM)
+    newest = min(leaves, key=lambda leaf: leaf_format.age(leaf.level, leaf.index))
+    tally.check("merge of %d leaves" % len(leaves), (number, tuple(pair)), (0, (newest.level, newest.index) if size else (0, 0)))
+    tally.check("zeros after the leaf", room[size:].strip(b"\0"), b"")
+    return room[:size]
+
+
+def roots(base, command):
+    """All segments once SQLite has done this."""
+    base.execute("insert into t(t) values (?)", (command,))
+    return [root for (root,) in base.execute("select root from t_segdir")]
+
+
+def compare_merge(rng, tally, counts, box, base, names, leaves):
+    """The index is changed by it. SQLite's `optimize` leaves a segment that is alone as it is, with its deletions; `rebuild` does not."""
+    if not leaves:
+        return
+    leaf = merged(rng, tally, box, leaves)
+    left = [leaf] if leaf else []
+    counts["merges"] += 1
+    counts["merges of several leaves"] += len(leaves) > 1
+    counts["merges of two levels"] += len({leaf.level for leaf in leaves}) > 1
+    counts["merges with deletions"] += len(leaf) != reference.merge(3, *in_some_order(rng, leaves), MERGE_ROOM, keep=True)[1]
+    counts["merges of which nothing is left"] += not leaf
+    if len(leaves) > 1:
+        tally.check("optimize", left, roots(base, "optimize"))
+    tally.check("rebuild", left, roots(base, "rebuild"))
+    for query in (generated.some_query(rng) for _ in range(MERGED)):
+        theirs = match(base, differences.written_out(query))
+        if reference.read_query(query, names) is not None and theirs is not None:
+            answer = box.search(*joined(names), *lending.in_order(left), query, ROOM)
+            tally.check("merged, %r" % query, answer, (0, len(theirs), theirs + [0] * (ROOM - len(theirs))))
+
+
+def emptied(rng, tally, counts, box):
+    """Tables of which nothing is left but a row without words: it keeps SQLite from clearing the index by itself."""
+    for _ in range(10):
+        base = new_table(":memory:")
+        base.execute("insert into t(docid, outcome) values (500, '.')")
+        docids = rng.sample(range(-9, 9), rng.randrange(1, 5))
+        for docid in docids:
+            base.execute("insert into t(docid, node, sent, outcome) values (?, ?, ?, ?)", (docid, *(text.decode() for text in generated.some_row(rng))))
+        base.execute("delete from t where docid <> 500")
+        compare_merge(rng, tally, counts, box, base, [b"node", b"sent", b"outcome"], export_leaves.segments(base, "t"))
+        base.close()
+
+
 def known(rng, tally, box, base):
     """Each known difference is one: it leaves the list once it is none."""
     for docid, text in ((1, "x"), (2, "y x")):
@@ -172,6 +222,7 @@ def main(words):
     rng = random.Random(int(words[1]) if len(words) > 1 else SEED)
     box, tally, counts = Box(), Tally(), collections.Counter()
     known(rng, tally, box, new_table(":memory:"))
+    emptied(rng, tally, counts, box)
     with tempfile.TemporaryDirectory() as folder:
         for i in range(tables):
             path = os.path.join(folder, "t%d.db" % i)
@@ -184,6 +235,7 @@ def main(words):
             names = [name.encode() for name in export.names]
             compare(rng, tally, counts, box, base, names, export.leaves)
             compare_sheets(rng, tally, counts, box, base, names, export.leaves)
+            compare_merge(rng, tally, counts, box, base, names, export.leaves)
             base.close()
             os.remove(path)
     print("SQLite %s: " % sqlite3.sqlite_version + ", ".join("%d %s" % (n, what) for what, n in counts.items()))
@@ -195,6 +247,9 @@ def main(words):
             tally.fail("too few queries " + what)
     for what in ("sheets with all four counts", "sheets with a row in two lists"):
         if counts[what] == 0 or counts[what] * 16 < counts["sheets"]:
+            tally.fail("too few " + what)
+    for what in ("merges of several leaves", "merges of two levels", "merges with deletions", "merges of which nothing is left"):
+        if counts[what] == 0 or counts[what] * 16 < counts["merges"]:
             tally.fail("too few " + what)
     for what in ("with several segments", "with two levels"):
         if counts[what] == 0 or counts[what] * 4 < tables:

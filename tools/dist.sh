@@ -1,5 +1,5 @@
 #!/usr/bin/env bash
-# Makes fts4box-VERSION.tar.gz: header, static library, pkg-config file, two pages, three examples, and SHA256SUMS over all of it.
+# Makes fts4box-VERSION.tar.gz: header, static library, pkg-config file, two pages, four examples, and SHA256SUMS over all of it.
 #
 #     bash tools/dist.sh [--built] [FOLDER]    --built: the static library is built already; FOLDER: target/dist if none is named
 #
@@ -37,7 +37,7 @@ mkdir -p "$tree/include" "$tree/lib/pkgconfig" "$tree/docs" "$tree/examples"
 cp include/fts4box.h "$tree/include/"
 cp "$library" "$tree/lib/"
 cp docs/REFERENCE.md docs/GUARANTEES.md "$tree/docs/"
-cp examples/search.c examples/folder.c examples/verdict.c "$tree/examples/"
+cp examples/search.c examples/folder.c examples/verdict.c examples/merge.c "$tree/examples/"
 # the paths follow from where the file stands, so that the tree can be moved
 cat > "$tree/lib/pkgconfig/fts4box.pc" << END
 prefix=\${pcfiledir}/../..

@@ -7,7 +7,7 @@ The manifest has one fact to a line, a key, a space and a value, in this order, 
     table probes
     sqlite 3.40.1           SQLite's version
     time 2026-11-16T08:00:00Z
-    prepared no             or optimize, rebuild: what was done to a copy before
+    prepared no             what was done before: optimize or rebuild in a copy of the database, merge of all leaves, or optimize+merge, rebuild+merge
     columns 3               then each column's name
     column node
     leaves 2                then for each leaf, in any order:
@@ -37,6 +37,9 @@ MANIFEST = "manifest.txt"
 FORMAT = "fts4box export"
 VERSION = "1"
 PREPARED = ("no", "optimize", "rebuild")
+# all leaves were merged into one (tools/merge.py): what was done to a copy of the database before stays told
+MERGE = "merge"
+MERGED = {"no": MERGE, "optimize": "optimize+" + MERGE, "rebuild": "rebuild+" + MERGE}
 MAX_MANIFEST_BYTES = 65536
 # document 01's program reads this file, and takes it as a leaf with these columns: no other leaf may have its name
 PROGRAM_FILE, PROGRAM_COLUMNS = "leaf0.bin", ["node", "sent", "outcome"]
@@ -59,6 +62,11 @@ def quoted(text):
 
 def unquoted(text):
     return urllib.parse.unquote(text, errors="surrogateescape")
+
+
+def with_merge(prepared):
+    """What a manifest says of an export whose leaves are merged; a merge of a merge is one."""
+    return MERGED.get(prepared, prepared)
 
 
 def digest(data):
@@ -246,7 +254,7 @@ def read(folder):
     if lines.value(FORMAT) != VERSION:
         raise Refused("the export in %s is of another version: export again" % folder)
     facts = [unquoted(lines.value("database")), unquoted(lines.value("table")), lines.value("sqlite"), lines.value("time"), lines.value("prepared")]
-    if facts[-1] not in PREPARED:
+    if facts[-1] not in (*PREPARED, *MERGED.values()):
         raise Refused("the manifest says `prepared %s`, which is not understood" % facts[-1])
     names = read_names(lines)
     found = [read_one(folder, lines) for _ in range(lines.number("leaves", leaf_format.MAX_LEAVES))]

@@ -371,10 +371,16 @@ def rows_of_run(asked, export, first, last, column=None):
     return dict(rows), stored
 
 
+def done_to(prepared):
+    """What the manifest's word says that was done, for a person."""
+    steps = prepared.split("+")
+    told = ["; prepared in a copy: page size %d, vacuum, %s" % (PAGE_SIZE, step) for step in steps if step in export_folder.PREPARED[1:]]
+    return "".join(told + ["; all leaves merged"] * (export_folder.MERGE in steps))
+
+
 def said_of(export):
-    done = "" if export.prepared == "no" else "; prepared in a copy: page size %d, vacuum, %s" % (PAGE_SIZE, export.prepared)
     count, total = len(export.leaves), sum(len(leaf.data) for leaf in export.leaves)
-    return "%d %s, %d bytes, columns %s%s" % (count, "leaf" if count == 1 else "leaves", total, " ".join(export.names), done)
+    return "%d %s, %d bytes, columns %s%s" % (count, "leaf" if count == 1 else "leaves", total, " ".join(export.names), done_to(export.prepared))
 
 
 class Words(argparse.ArgumentParser):

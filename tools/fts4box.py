@@ -1,6 +1,6 @@
-"""The six calls of libfts4box from Python, with ctypes: the static library is made a shared one in a temporary folder.
+"""The seven calls of libfts4box from Python, with ctypes: the static library is made a shared one in a temporary folder.
 
-`search` and `verdict` are the plain way to ask; the tests place their own buffers.
+`search`, `verdict` and `merge` are the plain way to ask; the tests place their own buffers.
 """
 import ctypes
 import os
@@ -22,11 +22,14 @@ CALLS = {
         I64, I64, PTR, SIZE, PTR, SIZE, PTR, SIZE, PTR, SIZE, PTR, SIZE, PTR, SIZE, PTR, SIZE, PTR, SIZE, PTR, SIZE, PTR, SIZE, PTR, SIZE, PTR, SIZE,
         PTR, PTR, PTR, PTR, PTR,
     ],
+    "fts4_merge": [U32, PTR, SIZE, PTR, SIZE, PTR, SIZE, PTR, SIZE, PTR, SIZE, PTR, PTR, PTR],
 }
 ACCEPTED = 0
 LEAST_DOCID, LARGEST_DOCID = -2**63, 2**63 - 1
 # docids that any search has room in: an entry with a position takes at least 3 of the 65,536 bytes
 SEARCH_ROOM = 65536 // 3
+# bytes that any merge has room in: one that needs more is refused by its shape
+MERGE_ROOM = 65536
 
 
 class NoLibrary(Exception):
@@ -51,7 +54,7 @@ def load(archive=ARCHIVE):
         shared = os.path.join(folder, "libfts4box.so")
         made_shared(archive, shared)
         library = ctypes.CDLL(shared)
-    # arguments go by position and an archive has no version: one before 1.6 is told by the call that it lacks
+    # arguments go by position and an archive has no version: one before 1.7 is told by the call that it lacks
     if any(not hasattr(library, name) for name in CALLS):
         raise NoLibrary("%s is of another version than these tools: build it anew with `rt staticlib fts4box`" % archive)
     for name, arguments in CALLS.items():
@@ -127,3 +130,14 @@ def verdict(library, first, last, names, leaves, levels, indexes, pass_query, fa
     # a list stands before the zeros of its room, so that these come too late, also where docid 0 is in the run
     in_run = [[docid for docid in room if first <= docid <= last][:count] for room, count in zip(rooms, told)]
     return number, second.value, told, in_run
+
+
+def merge(library, columns, leaves, levels, indexes, room_len=MERGE_ROOM):
+    """The answer's number, the number beside it, the level and the index of the merged leaf, and the leaf; no bytes are no leaf. What is lent is as for a search,
+    with a column count instead of the names."""
+    room, second, level, index = (ctypes.c_uint8 * room_len)(), U64(), U32(), U32()
+    number = library.fts4_merge(
+        as_u32(columns), *lent(leaves), *lent_numbers(levels), *lent_numbers(indexes), room, room_len, ctypes.byref(second), ctypes.byref(level),
+        ctypes.byref(index)
+    )
+    return number, second.value, level.value, index.value, bytes(room[:second.value]) if number == ACCEPTED else b""

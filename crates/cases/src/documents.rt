@@ -59,11 +59,16 @@ fn say_leaf(number: u64, second: usize, room: &[u8]) {
     }
 }
 
+// What the room holds: the leaf, and how far from the start it has a byte that is not 0.
+pub(crate) fn say_room(number: u64, second: usize, room: &[u8]) {
+    say_leaf(number, second, room);
+    exchange::say(held(room) as u64);
+}
+
 fn say_answer(number: u64, second: usize, room: &[u8]) {
     exchange::say(number);
     exchange::say(second as u64);
-    say_leaf(number, second, room);
-    exchange::say(held(room) as u64);
+    say_room(number, second, room);
 }
 
 fn write_into(docid: i64, texts: &[u8], ends: &[u32], room: &mut [u8]) {

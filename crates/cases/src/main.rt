@@ -1,10 +1,11 @@
 // The compared cases: each is read from standard input, and what the functions of a layer answer is written as one line.
-// A case is the number of what it asks for, two numbers, two fields with their ends, for a search and a verdict levels and indexes, and a
+// A case is the number of what it asks for, two numbers, two fields with their ends, for a search, a verdict and a merge levels and indexes, and a
 // short field; those that it does not need are 0 or empty. A verdict has two more queries and three sizes after them. tests/make_cases.py makes the cases and, with the second program, the lines that are expected.
 mod documents;
 mod exchange;
 mod ground;
 mod leaves;
+mod merges;
 mod queries;
 mod searches;
 mod verdicts;
@@ -35,6 +36,8 @@ const DOCUMENT: u64 = 11;
 const SEARCH: u64 = 12;
 
 const VERDICT: u64 = 13;
+
+const MERGE: u64 = 14;
 
 const MAX_CASES: usize = 1000000;
 
@@ -99,7 +102,7 @@ fn with_short<'a>(
     }
 }
 
-// A case of SEARCH or VERDICT has levels and indexes before the short field.
+// A case of SEARCH, VERDICT or MERGE has levels and indexes before the short field.
 fn with_pairs(
     kind: u64,
     n: u64,
@@ -115,6 +118,17 @@ fn with_pairs(
     let index_count = exchange::ends(&mut indexes);
     let mut short = [0u8; MAX_SHORT];
     let size = exchange::field(&mut short);
+    if kind == MERGE {
+        merges::merge(
+            exchange::low_half(n),
+            second,
+            second_ends,
+            &levels[0..level_count],
+            &indexes[0..index_count],
+            m as usize,
+        );
+        return;
+    }
     if kind == SEARCH {
         searches::search(
             first,

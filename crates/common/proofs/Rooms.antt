@@ -1,4 +1,4 @@
--- Laws of arrays that are written: place by place, from the front, by a copy, through a part that is lent.
+-- Laws of arrays that are written: place by place, from the front, by a copy, through a part that is lent, one part after the other.
 use Prim.Native.Nat.{_+_, _-_, _<_, _≤_, suc, zero, ℕ}
 use native.Mathlib.Nat.{le-of-suc-le-suc, not-suc-le-zero, suc-sub-suc}
 use native.Mathlib.Numerals.{add-one}
@@ -7,7 +7,8 @@ use mathlib.Core.List.{List, [], _++_, _∷_, append-assoc, append-nil, map}
 use mathlib.Core.Path.{_∙_, _≡_, ap, ap₂, refl, subst, sym}
 use lib.ListN.{List·getD-append, drop, drop-of-length-le, getD, length, length-append, length-drop, length-map, length-take, replicate, set, take, take-append-drop}
 use lib.Seq.{drop-append-add, drop-at, drop-cons, drop-drop, drop-set-lt, getD-set-other, getD-set-same, getD-take, length-paste, length-take-le, paste, set-append-seam, take-all, take-at, take-length, take-paste, take-suc, take-suc-set, take-take}
-use Rattle.common.specs.Bytes.{over}
+use borrow.Author.Tests.{le-leb, lt-leb}
+use Rattle.common.specs.Bytes.{over, fitted}
 use Rattle.common.proofs.Lists.{map-at}
 
 -- ---- place by place
@@ -68,6 +69,13 @@ over-map-next f l room now i b h k e q =
 
 pub over-map-all : (f : ℕ → ℕ) (l room now : List ℕ) (i : ℕ) → length l ≤ i → now ≡ over (take i (map f l)) room → now ≡ over (map f l) room
 over-map-all f l room now i h e = e ∙ ap (λ x. over x room) (take-all i (map f l) (omega (arith, length-map l f)))
+
+-- what fits is written, and what does not is not
+pub fitted-over : (w room : List ℕ) → length w ≤ length room → fitted w room ≡ over w room
+fitted-over w room h = rw (le-leb (length w) (length room) h) refl
+
+pub fitted-kept : (w room : List ℕ) → length room < length w → fitted w room ≡ room
+fitted-kept w room h = rw (lt-leb (length w) (length room) h) refl
 
 -- ---- one value everywhere
 
@@ -151,3 +159,52 @@ module _ (l y : List ℕ) (at : ℕ) (h : at ≤ length l) (k : length y ≡ len
       ap (λ (m : List ℕ). getD m n 0) back-is
       ∙ List·getD-append (take at l) y 0 n (omega (arith, length-take at l))
       ∙ getD-take at l n 0 m
+
+-- ---- one part after the other
+
+-- `w` stands at the front of the room and ends at `at`
+pub record Wrote (room now w : List ℕ) (at : ℕ) : Type 0 where
+  pub ends : at ≡ length w
+  pub is : now ≡ over w room
+  pub fits : length w ≤ length room
+
+-- what a writer into the whole room says of what fits
+pub wrote-first : (room now w : List ℕ) (n : ℕ) → length w ≤ length room → (n ≡ length w) × (now ≡ fitted w room) → Wrote room now w n
+wrote-first room now w n h e = record { ends = e .0; is = e .1 ∙ fitted-over w room h; fits = h }
+
+module _ {room now w : List ℕ} {at : ℕ} (k : Wrote room now w at) where
+  pub wrote-length : length now ≡ length room
+  wrote-length = ap length (k .is) ∙ over-length w room (k .fits)
+
+  pub wrote-within : at ≤ length now
+  wrote-within = omega (arith, wrote-length, k .ends, k .fits)
+
+  -- what is still free holds what still fits
+  pub wrote-free : (v : List ℕ) → length w + length v ≤ length room → length v ≤ length (take (length now - at) (drop at now))
+  wrote-free v h = simp (length-take, length-drop) (omega (arith, wrote-length, k .ends))
+
+  -- and `v` was put there
+  pub wrote-more : (v back : List ℕ) (n : ℕ) → length w + length v ≤ length room → n ≡ length v → back ≡ over v (take (length now - at) (drop at now))
+      → Wrote room (take at now ++ (back ++ drop (length now - at) (drop at now))) (w ++ v) (at + n)
+  wrote-more v back n h e b = record {
+    ends = omega (arith, k .ends, length-append w v);
+    is = over-lent now room w v back at h (k .ends) (k .is) b;
+    fits = omega (arith, length-append w v);
+  }
+
+  -- the same of a writer that looks at the room first
+  pub fitted-more : (v back : List ℕ) (n : ℕ) → length w + length v ≤ length room → n ≡ length v → back ≡ fitted v (take (length now - at) (drop at now))
+      → Wrote room (take at now ++ (back ++ drop (length now - at) (drop at now))) (w ++ v) (at + n)
+  fitted-more v back n h e b = wrote-more v back n h e (b ∙ fitted-over v (take (length now - at) (drop at now)) (wrote-free v h))
+
+-- a writer that begins with one call and goes on in a loop: what stands there is written as well over the room as it is now
+pub wrote-again : {room now w : List ℕ} {at : ℕ} → Wrote room now w at → Wrote now now w at
+wrote-again {room} {now} {w} k = record {
+  ends = k .ends;
+  is = k .is ∙ sym (ap (over w) (k .is) ∙ over-over w w room (omega arith) (k .fits));
+  fits = omega (arith, wrote-length k, k .fits);
+}
+
+-- and what is written further covers it
+pub wrote-under : {room mid now v w : List ℕ} {n at : ℕ} → Wrote room mid v n → Wrote mid now w at → length v ≤ length w → now ≡ over w room
+wrote-under {room} {mid} {now} {v} {w} j k h = k .is ∙ ap (over w) (j .is) ∙ over-over w v room h (j .fits)

@@ -29,3 +29,7 @@ within low high b = both (leb low b) (leb b high)
 -- a room once `w` was written to its front: what stands after it stays as it was
 abbrev pub over : List ℕ → List ℕ → List ℕ
 over w room = w ++ drop (length w) room
+
+-- a room once `w` was to be written to its front: what does not fit leaves the room as it was
+abbrev pub fitted : List ℕ → List ℕ → List ℕ
+fitted w room = pick (leb (length w) (length room)) (over w room) room

@@ -181,7 +181,7 @@ module _ {ls is places : List ℕ} {k : ℕ} (p : PlacesAre ls is k places) wher
 
 -- ---- all numbers
 
-upto-member : (k i : ℕ) → i < k → List·Memᴰ i (upTo k)
+pub upto-member : (k i : ℕ) → i < k → List·Memᴰ i (upTo k)
 upto-member zero i h = absurd (omega arith)
 upto-member (suc k) i h =
     perm-member (Permᴰ·symm (upto-more k)) (same-or i k (λ e. List·Memᴰ·head e) (λ d. List·Memᴰ·tail (upto-member k i (let f : i ≡ k → ⊥ = d in omega arith))))

@@ -22,7 +22,7 @@ rising-from low limit [] r = tt
 rising-from low limit (p ∷ ps) r =
     (r .0, member-each (λ q. low ≤ q) ps (λ q m. let h = each-member (λ x. suc p ≤ x) ps q (rising-from (suc p) limit ps (r .2)) m in omega (arith, r .0)))
 
-rising-rise : (low limit : ℕ) (ps : List ℕ) → Rising low limit ps → Rise _<_ ps
+pub rising-rise : (low limit : ℕ) (ps : List ℕ) → Rising low limit ps → Rise _<_ ps
 rising-rise low limit [] r = tt
 rising-rise low limit (p ∷ ps) r = (rising-from (suc p) limit ps (r .2), rising-rise (suc p) limit ps (r .2))
 

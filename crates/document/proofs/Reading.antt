@@ -157,18 +157,19 @@ pub some-term : (docid : ℕ) (texts : List (List ℕ)) (w : List ℕ) (c p : �
 some-term docid texts w c p st =
     member-some (documentTerms docid texts) (documentTerm docid texts w) (Memᴰ·map (documentTerm docid texts) (distinct-has (allWords texts) w (stands-word texts w c p st)))
 
+-- terms take bytes
+pub some-bytes : (ts : List Term) → 0 < length ts → 0 < length (leafOrNothing ts)
+some-bytes [] h = h
+some-bytes (t ∷ ts) h = omega (arith, encode-pos maxVarint 0 (omega arith), length-append (encode 0) (termBytes (t .word) (t .entries) ++ encodeTerms (t .word) ts))
+
 -- 0 bytes are written exactly where there is no word
 pub no-word : (docid : ℕ) (texts : List (List ℕ)) → (length (documentLeaf docid texts) ≡ 0) ↔ ((w : List ℕ) (c p : ℕ) → HasWordAt texts w c p → ⊥)
 no-word docid texts = (
-  λ e w c p st. absurd (omega (arith, pos (documentTerms docid texts) (some-term docid texts w c p st))),
+  λ e w c p st. absurd (omega (arith, some-bytes (documentTerms docid texts) (some-term docid texts w c p st))),
   λ n. ap (λ ws. length (leafOrNothing (map (documentTerm docid texts) ws)))
       (none (distinct (allWords texts)) (λ w m. let r = word-stands texts w (distinct-from (allWords texts) w m) in n w (r .0) (r .1) (r .2))),
 )
   where
-    pos : (ts : List Term) → 0 < length ts → 0 < length (leafOrNothing ts)
-    pos [] h = h
-    pos (t ∷ ts) h = omega (arith, encode-pos maxVarint 0 (omega arith), length-append (encode 0) (termBytes (t .word) (t .entries) ++ encodeTerms (t .word) ts))
-
     none : (ws : List (List ℕ)) → ((w : List ℕ) → List·Memᴰ w ws → ⊥) → ws ≡ []
     none [] f = refl
     none (w ∷ ws) f = absurd (f w (List·Memᴰ·head refl))

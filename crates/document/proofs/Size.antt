@@ -21,7 +21,7 @@ use Rattle.doclist.specs.Doclist.{Column, positionNumbers, announced, columnNum
 use Rattle.doclist.proofs.Numbers.{all-length}
 use Rattle.leaf.specs.Leaf.{Term, Before, shared, sized, termBytes, encodeTerms}
 use Rattle.leaf.proofs.Orders.{before-not-same}
-use Rattle.leaf.proofs.Words.{shared-most}
+use Rattle.leaf.proofs.Words.{shared-most, sized-length}
 use Rattle.document.specs.Document.{allWords, distinct, keepIf, positionsFrom, withColumn, columnsFrom, documentTerm, documentTerms, leafOrNothing, documentLeaf, Writable}
 use Rattle.document.proofs.Distinct.{distinct-from, distinct-rises}
 use Rattle.document.proofs.Weight.{weight, weight-count, text-count, document-weight}
@@ -129,9 +129,6 @@ list-bytes docid w texts h f =
     )
 
 -- ---- a term
-
-sized-length : (s : List ℕ) → length (sized s) ≡ length (encode (length s)) + length s
-sized-length s = length-append (encode (length s)) s
 
 -- what the leaf stores of a word, after the word `before`
 abbrev stored : List ℕ → Term → List ℕ

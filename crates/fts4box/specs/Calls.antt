@@ -4,6 +4,7 @@ use Prim.Native.Nat.{ℕ, _+_}
 use lib.IntN.{ℤ}
 use lib.ListN.{length}
 use mathlib.Core.Path.{_≡_}
+use mathlib.Core.Bool.{Bool}
 use mathlib.Core.List.{List}
 use Rattle.common.specs.Refusals.{numbers, FirstDue}
 use Rattle.leaf.specs.Answers.{checkRefusals}
@@ -18,6 +19,8 @@ use Rattle.writer.specs.declared.Answer.{Answer}
 use Rattle.search.specs.Search as answers
 use Rattle.search.specs.declared.Answer as listing
 use Rattle.doclist.specs.Docid.{docidOf, keyOf, keyOfBits}
+use Rattle.merge.specs.Merge as merges
+use Rattle.merge.specs.declared.Answer as merging
 use Rattle.verdict.specs.Sheet as verdict
 use Rattle.verdict.specs.declared.Sheet.{Sheet}
 use Rattle.verdict.specs.declared.Sheet.the-variants as sheet
@@ -78,6 +81,13 @@ pub record Found (x : answers.Input) (n : ℕ) (after : List ℤ) (number second
   pub answer : listing.Answer
   pub right : answers.Searched x n answer after
   pub numbers-are : numbers number second ≡ answers.numbersOf answer
+
+-- merging the leaves of an index, in a room of `n` bytes that holds `after` when it returns
+pub record Merged (keep : Bool) (x : merges.Input) (n : ℕ) (after : List ℕ) (number second level index : ℕ) : Type 0 where
+  pub answer : merging.Answer
+  pub right : merges.MergesTo keep x n answer after
+  pub numbers-are : numbers number second ≡ merges.numbersOf answer
+  pub pair-is : record { level = level; index = index } ≡ merges.pairOf answer
 
 -- the signed number of these 64 bits
 abbrev pub signed : ℕ → ℤ

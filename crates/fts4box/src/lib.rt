@@ -14,7 +14,9 @@ ghost use Rattle.search.specs.Search as answers;
 ghost use Rattle.doclist.specs.Docid.{keyOf};
 ghost use Rattle.verdict.specs.Sheet as verdict;
 ghost use Rattle.verdict.specs.Sheet.{RunRight, rowCount};
-ghost use Rattle.fts4box.specs.Calls.{Checked, LookedUp, Decided, Written, Found, Judged, answerStart, entryStart, entryLeaf, signed, sheetSecond, passedOf, failedOf, silencedOf, noneOf, RunCounted};
+ghost use Rattle.merge.specs.Merge as merges;
+ghost use mathlib.Core.Bool.{false};
+ghost use Rattle.fts4box.specs.Calls.{Checked, LookedUp, Decided, Written, Found, Merged, Judged, answerStart, entryStart, entryLeaf, signed, sheetSecond, passedOf, failedOf, silencedOf, noneOf, RunCounted};
 
 const ACCEPTED: u32 = 0;
 
@@ -219,6 +221,88 @@ pub extern "C" fn fts4_search(
     );
     *second = search_second(answer);
     search_number(answer)
+}
+
+fn merge_number(answer: merge::Answer) -> u32
+    ensures { λ r. ⌜ r ≡ merges.numbersOf answer .number ⌝ }
+{
+    match answer {
+        merge::Answer::Written {
+            size: _,
+            level: _,
+            index: _,
+        } => ACCEPTED,
+        merge::Answer::Shape => SHAPE,
+        merge::Answer::Leaf(_) => LEAF,
+        merge::Answer::Room(_) => ROOM,
+    }
+}
+
+fn merge_second(answer: merge::Answer) -> u64
+    ensures { λ r. ⌜ r ≡ merges.numbersOf answer .second ⌝ }
+{
+    match answer {
+        merge::Answer::Written {
+            size,
+            level: _,
+            index: _,
+        } => size as u64,
+        merge::Answer::Shape => 0,
+        merge::Answer::Leaf(i) => i as u64,
+        merge::Answer::Room(need) => need as u64,
+    }
+}
+
+fn merge_level(answer: merge::Answer) -> u32
+    ensures { λ r. ⌜ r ≡ merges.pairOf answer .level ⌝ }
+{
+    match answer {
+        merge::Answer::Written {
+            size: _,
+            level,
+            index: _,
+        } => level,
+        merge::Answer::Shape => 0,
+        merge::Answer::Leaf(_) => 0,
+        merge::Answer::Room(_) => 0,
+    }
+}
+
+fn merge_index(answer: merge::Answer) -> u32
+    ensures { λ r. ⌜ r ≡ merges.pairOf answer .index ⌝ }
+{
+    match answer {
+        merge::Answer::Written {
+            size: _,
+            level: _,
+            index,
+        } => index,
+        merge::Answer::Shape => 0,
+        merge::Answer::Leaf(_) => 0,
+        merge::Answer::Room(_) => 0,
+    }
+}
+
+// The full merge of all leaves of an index.
+#[no_mangle]
+pub extern "C" fn fts4_merge(
+    columns: u32,
+    leaves: &[u8],
+    leaf_ends: &[u32],
+    levels: &[u32],
+    indexes: &[u32],
+    room: &mut [u8],
+    second: &mut u64,
+    level: &mut u32,
+    index: &mut u32,
+) -> u32
+    ensures { λ r. ⌜ Merged false (record { columns = columns; leaves = now (leaves .entry); leaf-ends = now («leaf_ends» .entry); levels = now (levels .entry); indexes = now (indexes .entry) }) (length (now (room .entry))) (now (room .exit)) r (now (second .exit)) (now (level .exit)) (now (index .exit)) ⌝ }
+{
+    let answer = merge::merge(columns, leaves, leaf_ends, levels, indexes, room);
+    *second = merge_second(answer);
+    *level = merge_level(answer);
+    *index = merge_index(answer);
+    merge_number(answer)
 }
 
 fn sheet_number(sheet: Sheet) -> u32

@@ -5,12 +5,13 @@ use mathlib.Core.Path.{_≡_, refl, sym, ap, ap₂, _∙_, subst}
 use mathlib.Core.Bool.{Bool, true}
 use mathlib.Core.Logic.{_⊎_, inl, inr, ⊎-elim}
 use mathlib.Core.List.{List, [], _∷_, _++_}
-use lib.ListN.{length, getD, take, drop}
+use lib.ListN.{length, getD, take, drop, length-append}
 use lib.Seq.{paste}
 use lib.Dec.{ltb}
 use borrow.Author.Tests.{le-leb, lt-leb, lt-ltb, le-ltb, eq-eqb, ne-eqb, ltb-true, eqb-true}
 use Rattle.common.proofs.Cases.{pick-case, split, same-or}
-use Rattle.leaf.specs.Leaf.{Before, shared}
+use Rattle.varint.specs.Varint.{encode}
+use Rattle.leaf.specs.Leaf.{Before, shared, sized}
 use Rattle.leaf.specs.Reading.{joinsOf, withSuffix}
 
 -- `before` ends at `p`, or has a smaller byte than `b` there
@@ -138,6 +139,10 @@ shared-most (a ∷ v) (b ∷ w) =
     same-or a b
     (λ e. let k = shared-most v w in simp (eq-eqb a b e) (omega arith))
     (λ n. simp (ne-eqb a b n) (omega arith))
+
+-- bytes after their length
+pub sized-length : (s : List ℕ) → length (sized s) ≡ length (encode (length s)) + length s
+sized-length s = length-append (encode (length s)) s
 
 -- ---- a suffix in a word's room
 

@@ -14,10 +14,10 @@ use Rattle.opening.specs.declared.Front.{Front}
 
 -- ---- the test
 
-earlier-some : (f g : Front) → isEarlier f g ≡ true → f .mask ≡ 0 → ⊥
+pub earlier-some : (f g : Front) → isEarlier f g ≡ true → f .mask ≡ 0 → ⊥
 earlier-some f g e z = false-not-true (sym (rw (eq-eqb (f .mask) 0 z) refl) ∙ e)
 
-earlier-before : (f g : Front) → isEarlier f g ≡ true → (g .mask ≡ 0 → ⊥) → Before (frontWord f) (frontWord g)
+pub earlier-before : (f g : Front) → isEarlier f g ≡ true → (g .mask ≡ 0 → ⊥) → Before (frontWord f) (frontWord g)
 earlier-before f g e h =
     before-law (frontWord f) (frontWord g) .0 (sym (rw (ne-eqb (f .mask) 0 (earlier-some f g e), ne-eqb (g .mask) 0 h) refl) ∙ e)
 

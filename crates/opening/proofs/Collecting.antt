@@ -7,22 +7,23 @@ use mathlib.Core.Path.{_≡_, refl, sym, ap, ap₂, _∙_, subst}
 use mathlib.Core.Logic.{_⊎_, inl, inr, ⊎-elim}
 use mathlib.Core.List.{List, [], _∷_, _++_, map, append-assoc, append-nil, List·Memᴰ, List·Memᴰ·head, List·Memᴰ·not-nil, List·Memᴰ·append-cases, List·Memᴰ·eq-of-singleton, Memᴰ·append-left, Memᴰ·append-right}
 use lib.ListN.{length, getD, length-append}
-use Rattle.common.proofs.Same.{same-case, same-equal}
+use Rattle.common.proofs.Same.{same-case}
 use Rattle.common.proofs.Lists.{map-append}
 use Rattle.doclist.specs.Doclist.{Entry}
-use Rattle.leaf.specs.Leaf.{Term, Before}
+use Rattle.leaf.specs.Leaf.{Term}
 use Rattle.lexer.specs.Token.{Node}
 use Rattle.cursors.specs.Groups.{Group}
 use Rattle.cursors.specs.Arrays.{Cursor, groupCursors, cursors}
 use Rattle.cursors.proofs.Each.{group-length}
 use Rattle.opening.specs.Matching.{maskOf}
 use Rattle.opening.specs.Opening.{LeavesAre, listsOf, groupOf, listsSize, groupsSize, GroupsOf, wordSize, Arrays, Opened}
-use Rattle.opening.specs.Fronts.{Shows, FrontIs, FrontsAre, LeastIs, HoldAll, WordTaken, frontWord, frontAt, allPopped, headFor, headLists, leafAt, baseAt, allSkipped}
+use Rattle.opening.specs.Fronts.{FrontsAre, LeastIs, HoldAll, WordTaken, frontWord, frontAt, allPopped, headLists, allSkipped}
 use Rattle.opening.specs.declared.Front.{Front}
 use Rattle.opening.specs.declared.Opening.{Opening}
-use Rattle.opening.proofs.Words.{listsTotal, leavesTotal, NoneBefore, AllNoneBefore, none-before, skipped-keeps, skipped-total, lists-are, taken-none, taken-keeps, taken-total, lists-none}
+use Rattle.opening.specs.Walking.{AllNoneBefore}
+use Rattle.opening.proofs.Words.{listsTotal, leavesTotal, skipped-keeps, skipped-total, lists-are, taken-none, taken-keeps, taken-total, lists-none}
 use Rattle.opening.proofs.Room.{one, listSize, words-fit, lists-fit}
-use Rattle.opening.proofs.Taking.{heads-split}
+use Rattle.opening.proofs.Leading.{none-left, least-first, least-matched, some-list}
 
 -- ---- groups one after the other
 
@@ -124,7 +125,7 @@ collecting-end {left = left} {groups = groups} h e m =
 
 -- ---- how many cursors
 
-lists-one : (ls : List (List Entry)) → listsTotal one ls ≡ length ls
+pub lists-one : (ls : List (List Entry)) → listsTotal one ls ≡ length ls
 lists-one [] = refl
 lists-one (l ∷ ls) = let h = lists-one ls in omega arith
 
@@ -167,47 +168,11 @@ module _ (nodes : List Node) (columns : ℕ) (leaves : List (List Term)) (bytes 
   going-end h e =
       record {
         groups = g .groups;
-        groups-are = collecting-end h (λ j z. no-words j (omega (arith, g .fronts-are .count)) (getD (g .left) j []) refl) (g .collecting);
+        groups-are = collecting-end h (none-left nodes columns bytes ends order fronts (g .left) (g .fronts-are) best l e) (g .collecting);
         cursors-are = record { small = h .small; hold = g .hold };
       }
-    where
-      no-words : (j : ℕ) → j < length order → (ts : List Term) → getD (g .left) j [] ≡ ts → getD (g .left) j [] ≡ []
-      no-words j z [] q = q
-      no-words j z (t ∷ ts) q =
-          let s = subst (FrontIs nodes columns (leafAt bytes ends order j) (baseAt ends order j) (frontAt fronts j)) q (g .fronts-are .each j z) in
-          absurd (s .some (l .none (omega (arith, l .within)) j z))
 
   module _ (b : best < length order) where
-    -- the least front shows a term
-    shows : (t : Term) × (ts : List Term) × (getD (g .left) best [] ≡ t ∷ ts)
-        × Shows nodes columns (leafAt bytes ends order best) (baseAt ends order best) (frontAt fronts best) t ts
-    shows = go (getD (g .left) best []) refl (g .fronts-are .each best b)
-      where
-        go : (ts : List Term) → getD (g .left) best [] ≡ ts → FrontIs nodes columns (leafAt bytes ends order best) (baseAt ends order best) (frontAt fronts best) ts
-            → (t : Term) × (us : List Term) × (getD (g .left) best [] ≡ t ∷ us)
-            × Shows nodes columns (leafAt bytes ends order best) (baseAt ends order best) (frontAt fronts best) t us
-        go [] q s = absurd (l .some b s)
-        go (t ∷ us) q s = (t, us, q, s)
-
-    none-first : AllNoneBefore columns (frontWord (frontAt fronts best)) (g .left)
-    none-first = none-before columns (frontWord (frontAt fronts best)) (g .left) (λ j z. one-leaf j (omega (arith, g .fronts-are .count)) (getD (g .left) j []) (g .fronts-are .each j (omega (arith, g .fronts-are .count))))
-      where
-        one-leaf : (j : ℕ) → j < length order → (ts : List Term) → FrontIs nodes columns (leafAt bytes ends order j) (baseAt ends order j) (frontAt fronts j) ts
-            → NoneBefore columns (frontWord (frontAt fronts best)) ts
-        one-leaf j z [] s = tt
-        one-leaf j z (t ∷ ts) s =
-            (λ k. l .least b j z (s .some) (subst (λ (w : List ℕ). Before w (frontWord (frontAt fronts best))) (sym (s .word)) k), s .rest .good)
-
-    matched : maskOf nodes (frontWord (frontAt fronts best)) ≡ 0 → ⊥
-    matched z = let k = shows in k .3 .some (k .3 .mask ∙ ap (maskOf nodes) (sym (k .3 .word)) ∙ z)
-
-    some-list : 0 < length (headLists (frontWord (frontAt fronts best)) (g .left))
-    some-list =
-        let k = shows in
-        let w : List ℕ = frontWord (frontAt fronts best) in
-        let e : headFor w (getD (g .left) best []) ≡ k .0 .entries ∷ [] = ap (headFor w) (k .2) ∙ rw (same-equal (k .0 .word) w (sym (k .3 .word))) refl in
-        omega (arith, heads-split w (g .left) best (omega (arith, g .fronts-are .count)), ap length e)
-
     -- the arrays have room for the word's lists; when they are written, there are more cursors than before
     pub going-next : (a′ : Arrays) (r : Opening) → LeavesAre columns bytes ends order leaves → length bytes < wordSize * (length (a .docids) + 1)
         → ((left : List (List Term)) (cs : List Cursor) → FrontsAre nodes columns bytes ends order fronts left → HoldAll bytes a n cs
@@ -219,12 +184,12 @@ module _ (nodes : List Node) (columns : ℕ) (leaves : List (List Term)) (bytes 
         let x : Group = record { mask = maskOf nodes w; lists = ls } in
         let t = take (g .left) (cursors (g .groups)) (g .fronts-are) (g .hold)
         (omega (arith, g .hold .count, cursors-count (g .groups), g .collecting .total one, taken-total nodes columns w one (g .left), lists-one ls, words-fit h)) in (
-          omega (arith, some-list, g .hold .count, t .hold .count, length-append (cursors (g .groups)) (groupCursors (maskOf nodes w) 0 ls), group-length (maskOf nodes w) 0 ls),
+          omega (arith, some-list nodes columns bytes ends order fronts (g .left) (g .fronts-are) best l b, g .hold .count, t .hold .count, length-append (cursors (g .groups)) (groupCursors (maskOf nodes w) 0 ls), group-length (maskOf nodes w) 0 ls),
           record {
             groups = g .groups ++ (x ∷ []);
             left = allPopped nodes w (g .left);
             fronts-are = t .fronts-are;
             hold = subst (HoldAll bytes a′ (r .n)) (sym (cursors-more (g .groups) x)) (t .hold);
-            collecting = collecting-more columns w (g .collecting) none-first matched (λ q. omega (arith, some-list, ap length q));
+            collecting = collecting-more columns w (g .collecting) (least-first nodes columns bytes ends order fronts (g .left) (g .fronts-are) best l b) (least-matched nodes columns bytes ends order fronts (g .left) (g .fronts-are) best l b) (λ q. omega (arith, some-list nodes columns bytes ends order fronts (g .left) (g .fronts-are) best l b, ap length q));
           },
         )

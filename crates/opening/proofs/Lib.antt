@@ -8,6 +8,9 @@ pub mod Framing
 pub mod Taking
 pub mod Starting
 pub mod Words
+pub mod Leading
+pub mod Walks
+pub mod Alone
 pub mod Room
 pub mod Collecting
 pub mod Standing

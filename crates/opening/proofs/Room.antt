@@ -72,7 +72,7 @@ lists-size columns before (t ∷ ts) g = let h = lists-size columns (t .word) ts
 abbrev pub one : List Entry → ℕ
 one l = 1
 
-terms-one : (ts : List Term) → termsTotal one ts ≡ length ts
+pub terms-one : (ts : List Term) → termsTotal one ts ≡ length ts
 terms-one [] = refl
 terms-one (t ∷ ts) = let h = terms-one ts in omega arith
 

@@ -156,14 +156,14 @@ group-more mask f (x ∷ ls) l = ap (λ (cs : List Cursor). record { mask = mask
 
 -- ---- whether a front has the word
 
-has-same : (f g : Front) → hasWord f g ≡ true → frontWord g ≡ frontWord f
+pub has-same : (f g : Front) → hasWord f g ≡ true → frontWord g ≡ frontWord f
 has-same f g e =
     ⊎-elim
     (λ h. h .1)
     (λ h. false-not-true (h .0))
     (matches-law (record { bytes = frontWord f; star = false }) (frontWord g) .0 (sym (rw (ne-eqb (f .mask) 0 (has-mask f g e)) refl) ∙ e))
 
-has-not : (f g : Front) → hasWord f g ≡ false → (f .mask ≡ 0 → ⊥) → frontWord g ≡ frontWord f → ⊥
+pub has-not : (f g : Front) → hasWord f g ≡ false → (f .mask ≡ 0 → ⊥) → frontWord g ≡ frontWord f → ⊥
 has-not f g e h q =
     false-not-true
     (sym e ∙ rw (ne-eqb (f .mask) 0 h) (matches-law (record { bytes = frontWord f; star = false }) (frontWord g) .1 (inl (refl, q))))

@@ -11,13 +11,14 @@ use Rattle.common.specs.Bytes.{same}
 use Rattle.common.proofs.Cases.{same-or, bool-case}
 use Rattle.common.proofs.Same.{same-equal, same-other, same-case}
 use Rattle.doclist.specs.Doclist.{Entry}
-use Rattle.leaf.specs.Leaf.{Term, Before, Terms, NoTerm}
+use Rattle.leaf.specs.Leaf.{Term, NoTerm}
 use Rattle.leaf.proofs.Words.{before-case}
 use Rattle.leaf.proofs.Once.{not-later}
 use Rattle.lexer.specs.Token.{Node}
 use Rattle.opening.specs.Matching.{maskOf}
 use Rattle.opening.specs.Opening.{listFor, listsOf}
 use Rattle.opening.specs.Fronts.{skipTo, popped, allPopped, headFor, headLists, allSkipped}
+use Rattle.opening.specs.Walking.{NoneBefore, AllNoneBefore}
 
 -- ---- one leaf
 
@@ -28,7 +29,7 @@ for-this word t ts q = rw (same-equal (t .word) word q) refl
 for-other : (word : List ℕ) (t : Term) (ts : List Term) → (t .word ≡ word → ⊥) → listFor word (t ∷ ts) ≡ listFor word ts
 for-other word t ts q = rw (same-other (t .word) word q) refl
 
-for-none : (word : List ℕ) (ts : List Term) → NoTerm ts word → listFor word ts ≡ []
+pub for-none : (word : List ℕ) (ts : List Term) → NoTerm ts word → listFor word ts ≡ []
 for-none word [] h = refl
 for-none word (t ∷ ts) h = for-other word t ts (h .0) ∙ for-none word ts (h .1)
 
@@ -45,11 +46,6 @@ termsTotal weight (t ∷ ts) = weight (t .entries) + termsTotal weight ts
 abbrev pub leavesTotal : (List Entry → ℕ) → List (List Term) → ℕ
 leavesTotal weight [] = 0
 leavesTotal weight (ts ∷ leaves) = termsTotal weight ts + leavesTotal weight leaves
-
--- in what is left of a leaf no word comes before `word`
-abbrev pub NoneBefore : ℕ → List ℕ → List Term → Type 0
-NoneBefore columns word [] = Unit {0}
-NoneBefore columns word (t ∷ ts) = (Before (t .word) word → ⊥) × Terms columns (t .word) ts
 
 module _ (nodes : List Node) where
   skip-this : (t : Term) (ts : List Term) → maskOf nodes (t .word) ≡ 0 → skipTo nodes (t ∷ ts) ≡ skipTo nodes ts
@@ -131,10 +127,6 @@ module _ (nodes : List Node) where
         (λ e. rw e (omega arith))
 
 -- ---- all leaves
-
-abbrev pub AllNoneBefore : ℕ → List ℕ → List (List Term) → Type 0
-AllNoneBefore columns word [] = Unit {0}
-AllNoneBefore columns word (ts ∷ left) = NoneBefore columns word ts × AllNoneBefore columns word left
 
 pub none-before : (columns : ℕ) (word : List ℕ) (left : List (List Term)) → ((j : ℕ) → j < length left → NoneBefore columns word (getD left j [])) → AllNoneBefore columns word left
 none-before columns word [] h = tt

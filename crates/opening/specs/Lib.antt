@@ -2,3 +2,4 @@
 pub mod Matching
 pub mod Opening
 pub mod Fronts
+pub mod Walking

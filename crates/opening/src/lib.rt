@@ -22,6 +22,7 @@ ghost use Rattle.cursors.specs.Arrays.{Cursor};
 ghost use Rattle.opening.specs.Matching.{beginsWith, matchesOf, maskOf, NodeAt, TextIs};
 ghost use Rattle.opening.specs.Fronts.{frontWord, skipTo, FrontHas, FrontIs, isEarlier, hasWord, frontAt, Placed, LeastIs, headLists, FrontsAre, Able, HasPlace, withCursor, HoldAll, WordTaken, allSkipped};
 ghost use Rattle.opening.specs.Opening.{Arrays, arrays, OpenFrame, Opens};
+ghost use Rattle.opening.specs.Walking.{Begins, TakesWord, withLead, LeadOf, Alone, TakesAlone};
 
 // The mark of a word with no `*`.
 const PLAIN: u8 = 0;
@@ -38,7 +39,7 @@ const NO_CURSORS: usize = 0;
 const FIRST_WORD: usize = 1;
 
 // The first word that matches of those of a leaf that are not taken yet.
-struct Front {
+pub struct Front {
     // The word is the first `size` bytes.
     word: [u8; 64],
     size: usize,
@@ -56,6 +57,34 @@ struct Front {
 struct Opening {
     fronts: [Front; 8],
     n: usize,
+}
+
+// A word of the leaves, and how many of them have it: 0 where no word is left. Its lists are in the arrays.
+pub struct WordLists {
+    // What is left after it.
+    pub fronts: [Front; 8],
+    pub n: usize,
+    // The word is the first `size` bytes.
+    pub word: [u8; 64],
+    pub size: usize,
+}
+
+// The leaf with the least next word, by its number among those that are gone through, and its front; and the rival, the front with the
+// least word of the others.
+pub struct Lead {
+    at: usize,
+    front: Front,
+    rival: Front,
+}
+
+// A word that one leaf alone has, if `found`. Its list is in the arrays.
+pub struct Lone {
+    pub found: bool,
+    // What is left after it.
+    pub lead: Lead,
+    // The word is the first `size` bytes.
+    pub word: [u8; 64],
+    pub size: usize,
 }
 
 // Whether a word begins with a prefix.
@@ -427,6 +456,267 @@ fn is_able(
         return false;
     }
     offsets::is_cut(leaves, ends)
+}
+
+// Whether a front's word fits, and its list, if it has one, lies in the leaves.
+fn is_placed(front: Front, size: usize) -> bool
+    ensures { λ r. ⌜ ((r ≡ true) ↔ Placed size front) ⌝ }
+{
+    if common::MAX_WORD < front.size {
+        return false;
+    }
+    if front.mask == 0 {
+        return true;
+    }
+    if front.last < front.body {
+        return false;
+    }
+    (front.last as usize) < size
+}
+
+// Whether all of the first `m` fronts do.
+fn are_placed(fronts: [Front; 8], m: usize, size: usize) -> bool
+    requires { ⌜ m ≤ 8 ⌝ }
+    ensures { λ r. ⌜ ((r ≡ true) ↔ ((j : ℕ) → j < m → Placed size (frontAt fronts j))) ⌝ }
+{
+    let mut j: usize = 0;
+    while j < m {
+        if !is_placed(fronts[j], size) {
+            return false;
+        }
+        j += 1;
+    }
+    true
+}
+
+// What is left of the leaves before a word is taken: all words that some word of the query matches. Leaves that can't be gone
+// through have none.
+pub fn begin(
+    text: &[u8],
+    stops: &[u16],
+    marks: &[u8],
+    count: usize,
+    leaves: &[u8],
+    ends: &[u32],
+    order: &[u8],
+) -> [Front; 8]
+    ensures { λ r. ⌜ Begins (now (text .entry)) (now (stops .entry)) (now (marks .entry)) count (now (leaves .entry)) (now (ends .entry)) (now (order .entry)) r ⌝ }
+{
+    if !is_able(leaves, ends, order, 0, 0, 0, 0, 0) {
+        let none = no_front();
+        return [none; 8];
+    }
+    fronts_of(text, stops, marks, count, leaves, ends, order)
+}
+
+// Takes the least word that is left: the first entries of its lists go to the arrays, newest leaf first.
+pub fn next_word(
+    text: &[u8],
+    stops: &[u16],
+    marks: &[u8],
+    count: usize,
+    leaves: &[u8],
+    ends: &[u32],
+    order: &[u8],
+    fronts: [Front; 8],
+    docids: &mut [u64],
+    bodies: &mut [u16],
+    lasts: &mut [u16],
+    masks: &mut [u16],
+    follows: &mut [u8],
+) -> WordLists
+    ensures { λ r. ⌜ TakesWord (now (text .entry)) (now (stops .entry)) (now (marks .entry)) count (now (leaves .entry)) (now (ends .entry)) (now (order .entry)) fronts (arrays (now (docids .entry)) (now (bodies .entry)) (now (lasts .entry)) (now (masks .entry)) (now (follows .entry))) (arrays (now (docids .exit)) (now (bodies .exit)) (now (lasts .exit)) (now (masks .exit)) (now (follows .exit))) r ⌝ }
+{
+    let none = WordLists {
+        fronts,
+        n: 0,
+        word: [0u8; 64],
+        size: 0,
+    };
+    if !is_able(
+        leaves,
+        ends,
+        order,
+        docids.len(),
+        bodies.len(),
+        lasts.len(),
+        masks.len(),
+        follows.len(),
+    ) {
+        return none;
+    }
+    if !are_placed(fronts, order.len(), leaves.len()) {
+        return none;
+    }
+    let best = least(fronts, order.len());
+    if order.len() <= best {
+        return none;
+    }
+    let front = fronts[best];
+    let taken = take_word(
+        text,
+        stops,
+        marks,
+        count,
+        leaves,
+        ends,
+        order,
+        fronts,
+        front,
+        docids,
+        bodies,
+        lasts,
+        masks,
+        follows,
+        0,
+    );
+    let left = taken.fronts;
+    let word = front.word;
+    WordLists {
+        fronts: left,
+        n: taken.n,
+        word,
+        size: front.size,
+    }
+}
+
+// The leaf to go on with, where the next word may be its alone. Without a leaf the front has no word.
+pub fn lead_of(fronts: [Front; 8], m: usize, size: usize) -> Lead
+    ensures { λ r. ⌜ LeadOf fronts m size r ⌝ }
+{
+    let none = no_front();
+    let nobody = Lead {
+        at: common::MAX_LEAVES,
+        front: none,
+        rival: none,
+    };
+    if common::MAX_LEAVES < m {
+        return nobody;
+    }
+    if !are_placed(fronts, m, size) {
+        return nobody;
+    }
+    let at = least(fronts, m);
+    if m <= at {
+        return nobody;
+    }
+    let front = fronts[at];
+    let mut others = fronts;
+    others[at] = none;
+    let second = least(others, m);
+    if m <= second {
+        return Lead {
+            at,
+            front,
+            rival: none,
+        };
+    }
+    let rival = others[second];
+    Lead { at, front, rival }
+}
+
+// The fronts of all leaves, where one went on alone.
+pub fn with_lead(fronts: [Front; 8], lead: Lead) -> [Front; 8]
+    ensures { λ r. ⌜ r ≡ withLead fronts lead ⌝ }
+{
+    let at = lead.at;
+    if common::MAX_LEAVES <= at {
+        return fronts;
+    }
+    let front = lead.front;
+    let mut all = fronts;
+    all[at] = front;
+    all
+}
+
+// Whether the lead has a word before the rival's, in leaves that can be opened, and the arrays, of so many places, have one for it.
+fn is_alone(
+    leaves: &[u8],
+    ends: &[u32],
+    order: &[u8],
+    lead: Lead,
+    a: usize,
+    b: usize,
+    c: usize,
+    d: usize,
+    e: usize,
+) -> bool
+    ensures { λ r. ⌜ ((r ≡ true) ↔ Alone (now (leaves .entry)) (now (ends .entry)) (now (order .entry)) lead a b c d e) ⌝ }
+{
+    if a == 0 {
+        return false;
+    }
+    if order.len() <= lead.at {
+        return false;
+    }
+    let front = lead.front;
+    if !is_placed(front, leaves.len()) {
+        return false;
+    }
+    let rival = lead.rival;
+    if !is_placed(rival, leaves.len()) {
+        return false;
+    }
+    if !is_earlier(front, rival) {
+        return false;
+    }
+    is_able(leaves, ends, order, a, b, c, d, e)
+}
+
+// Takes the lead's word, if it comes before the rival's: no other leaf has it then.
+pub fn take_alone(
+    text: &[u8],
+    stops: &[u16],
+    marks: &[u8],
+    count: usize,
+    leaves: &[u8],
+    ends: &[u32],
+    order: &[u8],
+    lead: Lead,
+    docids: &mut [u64],
+    bodies: &mut [u16],
+    lasts: &mut [u16],
+    masks: &mut [u16],
+    follows: &mut [u8],
+) -> Lone
+    ensures { λ r. ⌜ TakesAlone (now (text .entry)) (now (stops .entry)) (now (marks .entry)) count (now (leaves .entry)) (now (ends .entry)) (now (order .entry)) lead (arrays (now (docids .entry)) (now (bodies .entry)) (now (lasts .entry)) (now (masks .entry)) (now (follows .entry))) (arrays (now (docids .exit)) (now (bodies .exit)) (now (lasts .exit)) (now (masks .exit)) (now (follows .exit))) r ⌝ }
+{
+    if !is_alone(
+        leaves,
+        ends,
+        order,
+        lead,
+        docids.len(),
+        bodies.len(),
+        lasts.len(),
+        masks.len(),
+        follows.len(),
+    ) {
+        return Lone {
+            found: false,
+            lead,
+            word: [0u8; 64],
+            size: 0,
+        };
+    }
+    let at = lead.at;
+    let front = lead.front;
+    let rival = lead.rival;
+    push(front, LEADS, docids, bodies, lasts, masks, follows, 0);
+    let i = order[at] as usize;
+    let leaf = offsets::part(leaves, ends, i);
+    let next = seek(text, stops, marks, count, leaf, leaf_start(ends, i), front);
+    let word = front.word;
+    Lone {
+        found: true,
+        lead: Lead {
+            at,
+            front: next,
+            rival,
+        },
+        word,
+        size: front.size,
+    }
 }
 
 // Makes the cursors of a search, and answers how many: for each index word that some word of the query matches, one in

@@ -19,7 +19,7 @@ use Rattle.leaf.specs.declared.LeafCheck.{LeafCheck}
 use Rattle.leaf.specs.declared.LeafCheck.the-variants.{Accepted, Shape, Broken}
 use Rattle.leaf.proofs.Checks as check
 use Rattle.leaf.proofs.Checks.{CheckPromise}
-use Rattle.search.specs.Checking.{SoundLeaves}
+use Rattle.search.specs.Checking.{Checkable, SoundLeaves}
 
 -- ---- one leaf
 
@@ -43,6 +43,9 @@ short-part s es i p e =
     let l : length (part s (startOf es i) (getD es i 0)) ≤ length s = simp (length-take, length-drop) (omega arith) in
     omega (arith, ap length (e ∙ cut-at s es i h)))
     (λ h. omega (arith, ap length (e ∙ sym (no-part s es i h))))
+
+pub part-checkable : (count : ℕ) (s es : List ℕ) (i : ℕ) (p : List ℕ) → p ≡ getD (cut s es) i [] → Checkable count s → Checkable count p
+part-checkable count s es i p e h = let k = short-part s es i p e in (h .0, h .1, omega (arith, h .2))
 
 -- ---- all leaves
 

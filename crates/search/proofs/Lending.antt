@@ -60,6 +60,14 @@ contents-moved count (List·Permᴰ·trans p q) cs h =
     let s = contents-moved count q (r .0) (r .1) in
     (s .0, s .1, List·Permᴰ·trans (r .2) (s .2))
 
+-- ---- the query
+
+-- where the names and the query are the same it reads as the same tree
+pub query-kept : (x y : Input) → x .names ≡ y .names → x .name-ends ≡ y .name-ends → x .query ≡ y .query → (tree : Tree) → IsQuery x tree → IsQuery y tree
+query-kept x y names ends query tree q =
+    subst (λ n. Reads (cut n (y .name-ends)) (y .query) tree) names
+    (subst (λ e. Reads (cut (x .names) e) (y .query) tree) ends (subst (λ s. Reads (cut (x .names) (x .name-ends)) s tree) query q))
+
 -- ---- what is lent
 
 bytes-count : (x : Input) → Lends x → length (leafBytes x) ≡ length (leafPairs x)
@@ -104,9 +112,7 @@ module _ {x y : Input} (l : LendSame x y) where
       }
 
   query-moved : (tree : Tree) → IsQuery x tree → IsQuery y tree
-  query-moved tree q =
-      subst (λ n. Reads (cut n (y .name-ends)) (y .query) tree) (l .names)
-      (subst (λ e. Reads (cut (x .names) e) (y .query) tree) (l .name-ends) (subst (λ s. Reads (cut (x .names) (x .name-ends)) s tree) (l .query) q))
+  query-moved = query-kept x y (l .names) (l .name-ends) (l .query)
 
   index-moved : (index : List (List Term)) → IndexIs x index → IndexIs y index
   index-moved index i =

@@ -114,7 +114,7 @@ searchable x n need m a b c d =
     d
   where
     passed : ShapeRight x → (tree : Tree) → IsQuery x tree → (contents : List (List Term)) → AreLeaves (columnCount x) (leafBytes x) contents → Searchable x
-    passed s tree q contents l = let i = index-some x s contents l in record { shape = s; tree = tree; is-query = q; index = i .0; is-index = i .1 }
+    passed s tree q contents l = let i = index-some (columnCount x) (x .leaves) (x .leaf-ends) (x .levels) (x .indexes) (s .dated) contents l in record { shape = s; tree = tree; is-query = q; index = i .0; is-index = i .1 }
 
 -- where the checks are passed the room decides
 pub last-due : (x : Input) (n need : ℕ) (m : Numbers) → ShapeRight x → (tree : Tree) → IsQuery x tree → (index : List (List Term)) → IndexIs x index

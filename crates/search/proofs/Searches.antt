@@ -89,15 +89,15 @@ module _ (x : Input) (n : ℕ) (r : Answer) (room : List ℤ) (good : Bool) (tes
 
         every : (tree : Tree) (index : List (List Term)) → ShapeRight x → IsQuery x tree → IndexIs x index → Answers index tree (run .docids)
         every tree index s q is =
-            let c = sorted-length by-age ∙ pairs-count x s in
+            let c = sorted-length by-age ∙ pairs-count (x .leaf-ends) (x .levels) (x .indexes) (s .dated) in
             run .listed (length (x .name-ends)) tree index
             (record { fit = record { filled = reads-filled q; few = reads-words q }; same = ap (λ (m : Reading). m .query) (compiles .content tree q) })
             (record {
               cuts = s .leaf-cuts;
               few = omega (arith, s .few-leaves);
               small = s .few-bytes;
-              each-once = subst (λ k. List·Permᴰ (upTo k) order) (pairs-count x s) (by-age .each-once);
-              are = index-ordered x s order by-age index is;
+              each-once = subst (λ k. List·Permᴰ (upTo k) order) (pairs-count (x .leaf-ends) (x .levels) (x .indexes) (s .dated)) (by-age .each-once);
+              are = index-ordered (columnCount x) (x .leaves) (x .leaf-ends) (x .levels) (x .indexes) (s .dated) order by-age index is;
             })
 
         behind-leaves : FirstDue (roomRefusal n (length (run .docids)) ∷ []) (numbers 0 (length (run .docids))) (numbersOf r)

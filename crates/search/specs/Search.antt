@@ -68,11 +68,15 @@ pub record ShapeRight (x : Input) : Type 0 where
 abbrev pub IsQuery : Input → Tree → Type 0
 IsQuery x tree = Reads (columnNames x) (x .query) tree
 
--- the index that is lent: the terms of its leaves, newest first by their levels and indexes
-pub record IndexIs (x : Input) (index : List (List Term)) : Type 0 where
+-- the index that leaves with these pairs make up, of a table with `count` columns: their terms, newest first
+pub record IndexOf (count : ℕ) (leaves : List (List ℕ)) (ps : List Pair) (index : List (List Term)) : Type 0 where
   pub contents : List (List Term)
-  pub are-leaves : AreLeaves (columnCount x) (leafBytes x) contents
-  pub newest-first : NewestFirst (leafPairs x) contents index
+  pub are-leaves : AreLeaves count leaves contents
+  pub newest-first : NewestFirst ps contents index
+
+-- the index that is lent
+abbrev pub IndexIs : Input → List (List Term) → Type 0
+IndexIs x index = IndexOf (columnCount x) (leafBytes x) (leafPairs x) index
 
 -- the checks 1, 2 and 3 are passed: the shape is right, the query is this tree, and the leaves make up this index
 pub record Searchable (x : Input) : Type 0 where

@@ -7,13 +7,12 @@ ghost use mathlib.Core.Bool.{true};
 ghost use mathlib.Core.List.{List};
 ghost use Prim.Native.Nat.{ℕ, _≤_};
 ghost use lib.ListN.{length};
-ghost use Rattle.common.specs.Bounds.{maxColumns, maxIndexBytes};
 ghost use Rattle.common.specs.Rooms.{zeros};
 ghost use Rattle.offsets.specs.Cut.{cut};
 ghost use Rattle.directory.specs.Order.{Ordered};
 ghost use Rattle.leaf.specs.Leaf.{IsLeaf};
 ghost use Rattle.search.specs.Search.{ShapeRight, Searched};
-ghost use Rattle.search.specs.Checking.{SoundLeaves};
+ghost use Rattle.search.specs.Checking.{Checkable, SoundLeaves};
 
 // What a search answers.
 pub enum Answer {
@@ -59,8 +58,7 @@ fn order_of(
 
 // Whether a leaf keeps every rule.
 fn is_leaf(leaf: &[u8], columns: u32) -> bool
-    requires { ⌜ (1 ≤ columns) × (columns ≤ maxColumns) × (length (now leaf) ≤ maxIndexBytes) ⌝ }
-    ensures { λ r. ⌜ ((r ≡ true) ↔ IsLeaf columns (now (leaf .entry))) ⌝ }
+    ensures { λ r. ⌜ (Checkable columns (now (leaf .entry)) → (r ≡ true) ↔ IsLeaf columns (now (leaf .entry))) ⌝ }
 {
     match leaf::check(leaf, columns) {
         LeafCheck::Accepted => true,
@@ -70,9 +68,9 @@ fn is_leaf(leaf: &[u8], columns: u32) -> bool
 }
 
 // How many leaves keep every rule, in the order lent, up to the first that breaks one.
-fn sound_leaves(leaves: &[u8], ends: &[u32], columns: u32) -> usize
-    requires { ⌜ (1 ≤ columns) × (columns ≤ maxColumns) × (length (now leaves) ≤ maxIndexBytes) ⌝ }
-    ensures { λ r. ⌜ SoundLeaves columns (cut (now (leaves .entry)) (now (ends .entry))) r ⌝ }
+pub fn sound_leaves(leaves: &[u8], ends: &[u32], columns: u32) -> usize
+    ensures few { λ r. ⌜ r ≤ length (now (ends .entry)) ⌝ }
+    ensures sound { λ r. ⌜ (Checkable columns (now (leaves .entry)) → SoundLeaves columns (cut (now (leaves .entry)) (now (ends .entry))) r) ⌝ }
 {
     let mut i: usize = 0;
     while i < ends.len() {

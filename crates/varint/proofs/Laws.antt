@@ -9,11 +9,12 @@ use mathlib.Core.Logic.{_↔_}
 use mathlib.Core.List.{List, [], _∷_, _++_}
 use lib.ListN.{length, getD, drop, length-drop, length-append}
 use lib.Seq.{drop-cons, drop-append-seam}
-use borrow.Author.Tests.{lt-ltb, le-ltb, le-leb}
+use borrow.Author.Tests.{lt-ltb, le-ltb}
 use Rattle.common.specs.Bytes.{over}
 use Rattle.common.proofs.Cases.{split, same-or}
 use Rattle.common.proofs.Lists.{drop-head}
 use Rattle.common.proofs.Numbers.{digits-pos, digits-rest, digits-some, digits-join}
+use Rattle.common.proofs.Rooms.{fitted-over}
 use Rattle.varint.specs.Varint.{encodeIn, encode, maxVarint, varintLimit, StoredAt, readFrom, fitting, readIn, readAt, onVarint, roomAfter}
 use Rattle.varint.specs.declared.Varint.{Varint}
 use Rattle.varint.specs.declared.Varint.the-variants.{Value, Refused}
@@ -293,12 +294,9 @@ encode-split most v w t u z hv hw e =
 
 -- ---- what was written is read back
 
-pub room-written : (v : ℕ) (room : List ℕ) → length (encode v) ≤ length room → roomAfter v room ≡ over (encode v) room
-room-written v room f = rw (le-leb (length (encode v)) (length room) f) refl
-
 pub reads-written : (v : ℕ) (room : List ℕ) → v < varintLimit → length (encode v) ≤ length room
     → readAt (roomAfter v room) 0 ≡ Value v (length (encode v))
 reads-written v room h f =
-    ap (λ (s : List ℕ). readAt s 0) (room-written v room f)
+    ap (λ (s : List ℕ). readAt s 0) (fitted-over (encode v) room f)
     ∙ reads maxVarint (over (encode v) room) 0 v (drop (length (encode v)) room) (omega arith) (omega arith) h refl
     ∙ ap (λ (n : ℕ). Value v n) (omega arith)

@@ -7,10 +7,10 @@ use mathlib.Core.List.{List, [], _++_, append-nil}
 use lib.ListN.{length, set, take, drop, length-set}
 use borrow.Author.Tests.{le-leb, lt-leb}
 use Rattle.common.specs.Bytes.{over}
-use Rattle.common.proofs.Rooms.{set-front, set-after, over-whole}
+use Rattle.common.proofs.Rooms.{set-front, set-after, over-whole, fitted-over}
 use Rattle.varint.specs.Varint.{encodeIn, encode, writtenOf, roomAfter}
 use Rattle.varint.specs.declared.Written.the-variants.{Bytes, NoRoom}
-use Rattle.varint.proofs.Laws.{encode-small, encode-big, encode-pos, encode-most, room-written}
+use Rattle.varint.proofs.Laws.{encode-small, encode-big, encode-pos, encode-most}
 
 -- ---- how many bytes a number takes
 
@@ -101,4 +101,4 @@ module _ (v : ℕ) (room : List ℕ) (n : ℕ) (e : n ≡ length (encode v)) whe
   pub written : n ≤ length room → (after : List ℕ) → after ≡ over (encode v) room → (Bytes n ≡ writtenOf v room) × (after ≡ roomAfter v room)
   written f after p =
       let g : length (encode v) ≤ length room = omega arith in
-      (rw (le-leb (length (encode v)) (length room) g) (ap Bytes e), p ∙ sym (room-written v room g))
+      (rw (le-leb (length (encode v)) (length room) g) (ap Bytes e), p ∙ sym (fitted-over (encode v) room g))

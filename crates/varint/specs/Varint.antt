@@ -9,7 +9,7 @@ use mathlib.Core.List.{List, [], _∷_, _++_}
 use lib.ListN.{length, getD, drop}
 use lib.Dec.{ltb, leb, eqb}
 use Rattle.common.specs.Pick.{pick}
-use Rattle.common.specs.Bytes.{over}
+use Rattle.common.specs.Bytes.{fitted}
 use Rattle.varint.specs.declared.Varint.{Varint}
 use Rattle.varint.specs.declared.Varint.the-variants.{Value, Refused}
 use Rattle.varint.specs.declared.Written.{Written}
@@ -90,4 +90,4 @@ writtenOf v room = pick (leb (length (encode v)) (length room)) (Bytes (length (
 
 -- the number and then the rest of the room as it was; a refusal leaves all of it as it was
 abbrev pub roomAfter : ℕ → List ℕ → List ℕ
-roomAfter v room = pick (leb (length (encode v)) (length room)) (over (encode v) room) room
+roomAfter v room = fitted (encode v) room

@@ -1,8 +1,6 @@
 -- The laws of this crate, in the order in which they build on each other.
-pub mod WordLaws
 pub mod Inserting
 pub mod Gathering
-pub mod Writing
 pub mod Lists
 pub mod TermLaws
 pub mod Answering

@@ -14,42 +14,15 @@ use Rattle.common.proofs.Same.{same-true, same-refl}
 use Rattle.common.proofs.Runs.{span-most}
 use Rattle.varint.specs.Varint.{encode, maxVarint}
 use Rattle.varint.proofs.Laws.{encode-most}
-use Rattle.leaf.specs.Leaf.{shared, sized}
-use Rattle.leaf.proofs.Words.{shared-most}
+use Rattle.leaf.specs.Leaf.{sized}
+use Rattle.leaf.proofs.Words.{sized-length}
+use Rattle.storing.specs.Words.{wordBytes}
+use Rattle.storing.proofs.WordLaws.{word-bytes-most}
 use Rattle.writer.specs.Rows.{rowWord, RowInside, AllInside, sameWord}
-use Rattle.writer.specs.Stored.{listBytes, Rises, wordBytes, termOf, runOf, termsFrom, Grouped, Table}
+use Rattle.writer.specs.Stored.{listBytes, Rises, termOf, runOf, termsFrom, Grouped, Table}
 use Rattle.writer.proofs.Lists.{list-most}
 
--- ---- a word
-
-module _ (before w : List ℕ) where
-  pub prefix-within : shared before w ≤ length w
-  prefix-within = shared-most before w
-
-  suffix-length : length (drop (shared before w) w) ≡ length w - shared before w
-  suffix-length = length-drop (shared before w) w
-
-  pub word-length : length (wordBytes before w) ≡ length (encode (shared before w)) + length (sized (drop (shared before w) w))
-  word-length = length-append (encode (shared before w)) (sized (drop (shared before w) w))
-
-  word-sized : length (wordBytes before w) ≡ length (encode (shared before w)) + length (encode (length w - shared before w)) + (length w - shared before w)
-  word-sized =
-      omega (
-        arith,
-        word-length,
-        length-append (encode (length (drop (shared before w) w))) (drop (shared before w) w),
-        suffix-length,
-        ap (λ k. length (encode k)) suffix-length,
-      )
-
-  -- what is lent of the word is its suffix
-  pub suffix-lent : (p : ℕ) → p ≡ shared before w → take (length w - p) (drop p w) ≡ drop (shared before w) w
-  suffix-lent p e = take-all (length w - p) (drop p w) (omega (arith, length-drop p w)) ∙ ap (λ k. drop k w) e
-
 -- ---- a term
-
-pub postings-length : (docid : ℕ) (rows : List ℕ) → length (sized (listBytes docid rows)) ≡ length (encode (length (listBytes docid rows))) + length (listBytes docid rows)
-postings-length docid rows = length-append (encode (length (listBytes docid rows))) (listBytes docid rows)
 
 module _ (before w : List ℕ) (docid : ℕ) (rows : List ℕ) where
   pub term-length : length (termOf before w docid rows) ≡ length (wordBytes before w) + length (sized (listBytes docid rows))
@@ -60,22 +33,17 @@ module _ (before w : List ℕ) (docid : ℕ) (rows : List ℕ) where
       omega (
         arith,
         term-length,
-        word-sized before w,
-        postings-length docid rows,
+        word-bytes-most before w,
+        sized-length (listBytes docid rows),
         list-most docid rows,
-        encode-most maxVarint (shared before w),
-        encode-most maxVarint (length w - shared before w),
         encode-most maxVarint (length (listBytes docid rows)),
       )
 
   -- its size, added up
-  pub term-sized : (p n : ℕ) → p ≡ shared before w → n ≡ length (listBytes docid rows)
-      → length (encode p) + length (encode (length w - p)) + (length w - p) + length (encode n) + n ≡ length (termOf before w docid rows)
-  term-sized p n e f =
-      let a = ap (λ k. length (encode k)) e in
-      let b = ap (λ k. length (encode (length w - k))) e in
-      let c = ap (λ k. length (encode k)) f in
-      omega (arith, term-length, word-sized before w, postings-length docid rows)
+  pub term-sized : (m n : ℕ) → m ≡ length (wordBytes before w) → n ≡ length (listBytes docid rows) → m + length (encode n) + n ≡ length (termOf before w docid rows)
+  term-sized m n e f =
+      let s = ap (λ k. length (encode k)) f in
+      omega (arith, term-length, sized-length (listBytes docid rows))
 
 -- ---- runs
 

@@ -7,10 +7,10 @@ use lib.ListN.{length, take, drop}
 use lib.Dec.{eqb}
 use Rattle.common.specs.Pick.{pick}
 use Rattle.common.specs.Bytes.{span}
-use Rattle.varint.specs.Varint.{encode}
 use Rattle.doclist.specs.Docid.{bitsOf}
 use Rattle.doclist.specs.Doclist.{encodeAll}
-use Rattle.leaf.specs.Leaf.{shared, sized}
+use Rattle.leaf.specs.Leaf.{sized}
+use Rattle.storing.specs.Words.{wordBytes}
 use Rattle.writer.specs.Rows.{AllInside, rowColumn, rowPosition, rowKey, rowWord, sameWord}
 
 -- ---- a posting list
@@ -36,11 +36,7 @@ Rises last (r ∷ rows) = (rowKey last ≤ rowKey r) × Rises r rows
 
 -- ---- terms
 
--- a word after another: the length of the prefix that they share, and the suffix after its length
-abbrev pub wordBytes : List ℕ → List ℕ → List ℕ
-wordBytes before w = encode (shared before w) ++ sized (drop (shared before w) w)
-
--- and its posting list after its length
+-- a word after another, and its posting list after its length
 abbrev pub termOf : List ℕ → List ℕ → ℕ → List ℕ → List ℕ
 termOf before w docid rows = wordBytes before w ++ sized (listBytes docid rows)
 

@@ -3,7 +3,6 @@
 // array, and a second one holds a row for each word.
 mod rows;
 mod terms;
-mod words;
 
 use tokenizer::Word;
 ghost use mathlib.Core.Path.{_≡_};
@@ -27,17 +26,6 @@ pub enum Answer {
     Overlong(usize),
     // The room is too small: how many bytes are needed.
     Room(usize),
-}
-
-// Fills the room with zeros.
-fn clear(room: &mut [u8])
-    ensures { λ _. ⌜ now (room .exit) ≡ replicate (length (now (room .entry))) 0 ⌝ }
-{
-    let mut i: usize = 0;
-    while i < room.len() {
-        room[i] = 0;
-        i += 1;
-    }
 }
 
 // Whether number 1 is not due.
@@ -116,7 +104,7 @@ pub fn write(docid: i64, texts: &[u8], ends: &[u32], room: &mut [u8]) -> Answer
     ensures holds { λ _. ⌜ now (room .exit) ≡ roomOf docid (now (texts .entry)) (now (ends .entry)) (length (now (room .entry))) ⌝ }
     ensures exact { λ r. ⌜ ((a : Answer) → (r ≡ a) ↔ WriteIs docid (now (texts .entry)) (now (ends .entry)) (length (now (room .entry))) a) ⌝ }
 {
-    clear(room);
+    storing::clear(room);
     if !is_document(texts, ends) {
         return Answer::Shape;
     }

@@ -3,7 +3,6 @@
 //     start   end   column   position        start and end: where the word stands in the texts
 //
 // Rows are sorted by their words, which are read in the folded texts; rows of one word stay in the order of the document.
-use crate::words;
 use tokenizer::Word;
 ghost use mathlib.Core.Path.{_≡_};
 ghost use mathlib.Core.List.{_∷_, _++_, map};

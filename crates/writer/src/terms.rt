@@ -8,16 +8,14 @@
 //
 // The docid comes as its key and is stored as its 64 bits.
 use crate::rows;
-use crate::words;
 ghost use mathlib.Core.Path.{_≡_};
 ghost use Prim.Native.Nat.{_≤_};
 ghost use lib.ListN.{length};
 ghost use Rattle.common.specs.Bytes.{span, over};
-ghost use Rattle.varint.specs.Varint.{encode};
 ghost use Rattle.doclist.specs.Doclist.{encodeAll};
 ghost use Rattle.leaf.specs.Leaf.{sized};
 ghost use Rattle.writer.specs.Rows.{rowKey, AllInside, sameWord};
-ghost use Rattle.writer.specs.Stored.{rowNumbers, listBytes, Rises, wordBytes, termOf, termsOf, Table};
+ghost use Rattle.writer.specs.Stored.{rowNumbers, listBytes, Rises, termOf, termsOf, Table};
 
 // How many rows, from the first on, have the word `w`.
 fn run(folded: &[u8], rows: &[u64], w: &[u8]) -> usize
@@ -64,15 +62,6 @@ fn list_size(rows: &[u64], docid: u64) -> usize
     total + varint::size(0)
 }
 
-// Puts a number at the front of the room; how many bytes it took.
-fn put_number(out: &mut [u8], v: u64) -> usize
-    requires { ⌜ length (encode v) ≤ length (now out) ⌝ }
-    ensures { λ r. ⌜ (r ≡ length (encode v)) × (now (out .exit) ≡ over (encode v) (now (out .entry))) ⌝ }
-{
-    varint::write(out, v);
-    varint::size(v)
-}
-
 // Puts a row after the row `last`, which is 0 for the first, at the front of the room.
 fn put_row(out: &mut [u8], last: u64, row: u64) -> usize
     requires { ⌜ (rowKey last ≤ rowKey row) × (length (encodeAll (rowNumbers last row)) ≤ length (now out)) ⌝ }
@@ -81,11 +70,11 @@ fn put_row(out: &mut [u8], last: u64, row: u64) -> usize
     let column = rows::column_of(row);
     let position = rows::position_of(row);
     if column == rows::column_of(last) {
-        return put_number(out, position - rows::position_of(last) + 2);
+        return storing::put_number(out, position - rows::position_of(last) + 2);
     }
-    let mut at = put_number(out, 1);
-    at += put_number(&mut out[at..], column);
-    at + put_number(&mut out[at..], position + 2)
+    let mut at = storing::put_number(out, 1);
+    at += storing::put_number(&mut out[at..], column);
+    at + storing::put_number(&mut out[at..], position + 2)
 }
 
 // Puts a posting list at the front of the room.
@@ -94,7 +83,7 @@ fn put_list(out: &mut [u8], rows: &[u64], docid: u64) -> usize
     ensures { λ r. ⌜ (r ≡ length (listBytes docid (now (rows .entry)))) × (now (out .exit) ≡ over (listBytes docid (now (rows .entry))) (now (out .entry))) ⌝ }
 {
     let bits = doclist::keys::bits_of(docid);
-    let mut at = put_number(out, bits);
+    let mut at = storing::put_number(out, bits);
     let mut last: u64 = 0;
     let mut i: usize = 0;
     while i < rows.len() {
@@ -102,29 +91,7 @@ fn put_list(out: &mut [u8], rows: &[u64], docid: u64) -> usize
         last = rows[i];
         i += 1;
     }
-    at + put_number(&mut out[at..], 0)
-}
-
-// Copies bytes to the front of the room.
-fn put_bytes(out: &mut [u8], bytes: &[u8])
-    requires { ⌜ length (now bytes) ≤ length (now out) ⌝ }
-    ensures { λ _. ⌜ now (out .exit) ≡ over (now (bytes .entry)) (now (out .entry)) ⌝ }
-{
-    let mut i: usize = 0;
-    while i < bytes.len() {
-        out[i] = bytes[i];
-        i += 1;
-    }
-}
-
-// Puts bytes after their length at the front of the room.
-fn put_sized(out: &mut [u8], bytes: &[u8]) -> usize
-    requires { ⌜ length (sized (now bytes)) ≤ length (now out) ⌝ }
-    ensures { λ r. ⌜ (r ≡ length (sized (now (bytes .entry)))) × (now (out .exit) ≡ over (sized (now (bytes .entry))) (now (out .entry))) ⌝ }
-{
-    let at = put_number(out, bytes.len() as u64);
-    put_bytes(&mut out[at..], bytes);
-    at + bytes.len()
+    at + storing::put_number(&mut out[at..], 0)
 }
 
 // How many bytes a term takes after the word `before`.
@@ -132,24 +99,8 @@ fn term_size(before: &[u8], w: &[u8], rows: &[u64], docid: u64) -> usize
     requires { ⌜ Rises 0 (now rows) × (length (now rows) ≤ 4096) ⌝ }
     ensures { λ r. ⌜ r ≡ length (termOf (now (before .entry)) (now (w .entry)) docid (now (rows .entry))) ⌝ }
 {
-    let prefix = words::shared_prefix(before, w);
-    let suffix = w.len() - prefix;
     let list = list_size(rows, docid);
-    varint::size(prefix as u64)
-        + varint::size(suffix as u64)
-        + suffix
-        + varint::size(list as u64)
-        + list
-}
-
-// Puts a word after the word `before` at the front of the room: the prefix that they share, and the suffix.
-fn put_word(out: &mut [u8], before: &[u8], w: &[u8]) -> usize
-    requires { ⌜ length (wordBytes (now before) (now w)) ≤ length (now out) ⌝ }
-    ensures { λ r. ⌜ (r ≡ length (wordBytes (now (before .entry)) (now (w .entry)))) × (now (out .exit) ≡ over (wordBytes (now (before .entry)) (now (w .entry))) (now (out .entry))) ⌝ }
-{
-    let prefix = words::shared_prefix(before, w);
-    let at = put_number(out, prefix as u64);
-    at + put_sized(&mut out[at..], &w[prefix..])
+    storing::word_size(before, w) + varint::size(list as u64) + list
 }
 
 // Puts a posting list after its length at the front of the room.
@@ -158,7 +109,7 @@ fn put_postings(out: &mut [u8], rows: &[u64], docid: u64) -> usize
     requires { ⌜ length (sized (listBytes docid (now rows))) ≤ length (now out) ⌝ }
     ensures { λ r. ⌜ (r ≡ length (sized (listBytes docid (now (rows .entry))))) × (now (out .exit) ≡ over (sized (listBytes docid (now (rows .entry)))) (now (out .entry))) ⌝ }
 {
-    let at = put_number(out, list_size(rows, docid) as u64);
+    let at = storing::put_number(out, list_size(rows, docid) as u64);
     at + put_list(&mut out[at..], rows, docid)
 }
 
@@ -191,7 +142,7 @@ pub(crate) fn put_terms(out: &mut [u8], folded: &[u8], rows: &[u64], docid: u64)
     while i < rows.len() {
         let w = rows::word_of(folded, rows[i]);
         let next = i + run(folded, &rows[i..], w);
-        at += put_word(&mut out[at..], rows::word_of(folded, last), w);
+        at += storing::put_word(&mut out[at..], rows::word_of(folded, last), w);
         at += put_postings(&mut out[at..], &rows[i..next], docid);
         last = rows[i];
         i = next;

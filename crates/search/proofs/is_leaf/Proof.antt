@@ -17,13 +17,13 @@ enum-told-3 : tie.Need-enum-told-3
 enum-told-3 c = search needs
 
 returns : tie.Need-returns
-returns c = accepted-leaf _ _ (c .before .before .check .result) (c .before .before .check .ensures .1) (record { some = c .before .before .before .before .pre .0; few = c .before .before .before .before .pre .1; size = c .before .before .before .before .pre .2 }) (c .enum-told .given .1)
+returns c h = accepted-leaf _ _ (c .before .before .check .result) (c .before .before .check .ensures .1) (record { some = h .0; few = h .1; size = h .2 }) (c .enum-told .given .1)
 
 returns-2 : tie.Need-returns-2
-returns-2 c = shape-leaf _ _ (c .before .before .check .result) (c .before .before .check .ensures .1) (record { some = c .before .before .before .before .pre .0; few = c .before .before .before .before .pre .1; size = c .before .before .before .before .pre .2 }) (c .enum-told2 .given .1)
+returns-2 c h = shape-leaf _ _ (c .before .before .check .result) (c .before .before .check .ensures .1) (record { some = h .0; few = h .1; size = h .2 }) (c .enum-told2 .given .1)
 
 returns-3 : tie.Need-returns-3
-returns-3 c = broken-leaf _ _ (c .before .before .check .result) (c .before .before .check .ensures .1) (record { some = c .before .before .before .before .pre .0; few = c .before .before .before .before .pre .1; size = c .before .before .before .before .pre .2 }) (c .enum-told3 .given .1)
+returns-3 c h = broken-leaf _ _ (c .before .before .check .result) (c .before .before .check .ensures .1) (record { some = h .0; few = h .1; size = h .2 }) (c .enum-told3 .given .1)
 
 pub is-leaf-spec : {M : Type 1} → statement M
 is-leaf-spec =

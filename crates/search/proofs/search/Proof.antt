@@ -37,7 +37,7 @@ cast-sound-leaves : tie.Need-cast-sound-leaves
 cast-sound-leaves c = let q = c .before .before .before .before .before .before .before .before .before .before .before .before .before .args .query .now in let b = shape-bounds _ (c .before .before .before .before .before .order-of .ensures .0 q .0 (not-false _ (c .before .before .before .if1 .left))) in omega (arith, b .1)
 
 sound-leaves-requires : tie.Need-sound-leaves-requires
-sound-leaves-requires c κs = let q = c .before .before .before .before .before .before .before .before .before .before .before .before .before .args .query .now in shape-bounds _ (c .before .before .before .before .before .order-of .ensures .0 q .0 (not-false _ (c .before .before .before .if1 .left)))
+sound-leaves-requires c κs = search needs
 
 refused-requires-3 : tie.Need-refused-requires-3
 refused-requires-3 c κs = search needs
@@ -46,7 +46,7 @@ same-length-3 : tie.Need-same-length-3
 same-length-3 c = search needs
 
 returns-3 : tie.Need-returns-3
-returns-3 c = let h = c .before .before .before .before .before .before .before .before .before .before .order-of in let q = c .before .before .before .before .before .before .before .before .before .before .before .before .before .before .before .before .before .before .args .query .now in leaf-refused _ _ _ _ (h .result .ok) (h .ensures .0 q) (not-false _ (c .before .before .before .before .before .before .before .before .if1 .left)) (c .before .before .before .before .before .before .before .read .result) (c .before .before .before .before .before .before .before .read .ensures .1) (not-false _ (c .before .before .before .before .before .if2 .left)) (c .before .before .before .before .sound-leaves .result) (c .before .before .before .before .sound-leaves .ensures) (c .before .before .before .if3 .taken) (c .before .refused3 .ensures)
+returns-3 c = let h = c .before .before .before .before .before .before .before .before .before .before .order-of in let q = c .before .before .before .before .before .before .before .before .before .before .before .before .before .before .before .before .before .before .args .query .now in leaf-refused _ _ _ _ (h .result .ok) (h .ensures .0 q) (not-false _ (c .before .before .before .before .before .before .before .before .if1 .left)) (c .before .before .before .before .before .before .before .read .result) (c .before .before .before .before .before .before .before .read .ensures .1) (not-false _ (c .before .before .before .before .before .if2 .left)) (c .before .before .before .before .sound-leaves .result) (c .before .before .before .before .sound-leaves .ensures .1 (shape-bounds _ (h .ensures .0 q .0 (not-false _ (c .before .before .before .before .before .before .before .before .if1 .left))))) (c .before .before .before .if3 .taken) (c .before .refused3 .ensures)
 
 sub-run : tie.Need-sub-run
 sub-run c = search needs
@@ -55,7 +55,7 @@ part-run-start : tie.Need-part-run-start
 part-run-start c = search needs
 
 part-run-end : tie.Need-part-run-end
-part-run-end c = let h = c .before .before .before .before .before .before .before .before .before .before .order-of in let q = c .before .before .before .before .before .before .before .before .before .before .before .before .before .before .before .before .before .before .args .query .now in let e = not-false _ (c .before .before .before .before .before .before .before .before .if1 .left) in order-room _ (h .ensures .0 q .0 e) (h .result) (h .ensures .1 e) e
+part-run-end c = let h = c .before .before .before .before .before .before .before .before .before .before .order-of in let a = c .before .before .before .before .before .before .before .before .before .before .before .before .before .before .before .before .before .before .args in let q = a .query .now in let e = not-false _ (c .before .before .before .before .before .before .before .before .if1 .left) in order-room (a .leaf-ends .now) _ _ (h .ensures .0 q .0 e .dated) (h .result) (h .ensures .1 e) e
 
 run-requires : tie.Need-run-requires
 run-requires c κs = search needs
@@ -67,13 +67,13 @@ same-length-4 : tie.Need-same-length-4
 same-length-4 c = search needs
 
 returns-4 : tie.Need-returns-4
-returns-4 c = let h = c .before .before .before .before .before .before .before .before .before .before .before .before .before .before .before .before .before .before .order-of in let a = c .before .before .before .before .before .before .before .before .before .before .before .before .before .before .before .before .before .before .before .before .before .before .before .before .before .before .args in let e = not-false _ (c .before .before .before .before .before .before .before .before .before .before .before .before .before .before .before .before .if1 .left) in room-refused _ _ _ _ (h .result .ok) (h .ensures .0 (a .query .now)) e (c .before .before .before .before .before .before .before .before .before .before .before .before .before .before .before .read .result) (c .before .before .before .before .before .before .before .before .before .before .before .before .before .before .before .read .ensures .1) (not-false _ (c .before .before .before .before .before .before .before .before .before .before .before .before .before .if2 .left)) (c .before .before .before .before .before .before .before .before .before .before .before .before .sound-leaves .result) (c .before .before .before .before .before .before .before .before .before .before .before .before .sound-leaves .ensures) (c .before .before .before .before .before .before .before .before .before .before .before .if3 .left) _ (order-lent _ (h .ensures .0 (a .query .now) .0 e) (h .result) (h .ensures .1 e) e) (c .before .before .before .before .before .run .result) _ (c .before .before .before .before .before .run .ensures) (c .before .before .before .if4 .taken) (c .before .refused4 .ensures)
+returns-4 c = let h = c .before .before .before .before .before .before .before .before .before .before .before .before .before .before .before .before .before .before .order-of in let a = c .before .before .before .before .before .before .before .before .before .before .before .before .before .before .before .before .before .before .before .before .before .before .before .before .before .before .args in let e = not-false _ (c .before .before .before .before .before .before .before .before .before .before .before .before .before .before .before .before .if1 .left) in room-refused _ _ _ _ (h .result .ok) (h .ensures .0 (a .query .now)) e (c .before .before .before .before .before .before .before .before .before .before .before .before .before .before .before .read .result) (c .before .before .before .before .before .before .before .before .before .before .before .before .before .before .before .read .ensures .1) (not-false _ (c .before .before .before .before .before .before .before .before .before .before .before .before .before .if2 .left)) (c .before .before .before .before .before .before .before .before .before .before .before .before .sound-leaves .result) (c .before .before .before .before .before .before .before .before .before .before .before .before .sound-leaves .ensures .1 (shape-bounds _ (h .ensures .0 (a .query .now) .0 e))) (c .before .before .before .before .before .before .before .before .before .before .before .if3 .left) _ (order-lent (a .leaf-ends .now) _ _ (h .ensures .0 (a .query .now) .0 e .dated) (h .result) (h .ensures .1 e) e) (c .before .before .before .before .before .run .result) _ (c .before .before .before .before .before .run .ensures) (c .before .before .before .if4 .taken) (c .before .refused4 .ensures)
 
 same-length-5 : tie.Need-same-length-5
 same-length-5 c = search needs
 
 returns-5 : tie.Need-returns-5
-returns-5 c = let h = c .before .before .before .before .before .before .before .before .before .before .before .before .before .before .before .order-of in let a = c .before .before .before .before .before .before .before .before .before .before .before .before .before .before .before .before .before .before .before .before .before .before .before .args in let e = not-false _ (c .before .before .before .before .before .before .before .before .before .before .before .before .before .if1 .left) in all-found _ _ _ _ (h .result .ok) (h .ensures .0 (a .query .now)) e (c .before .before .before .before .before .before .before .before .before .before .before .before .read .result) (c .before .before .before .before .before .before .before .before .before .before .before .before .read .ensures .1) (not-false _ (c .before .before .before .before .before .before .before .before .before .before .if2 .left)) (c .before .before .before .before .before .before .before .before .before .sound-leaves .result) (c .before .before .before .before .before .before .before .before .before .sound-leaves .ensures) (c .before .before .before .before .before .before .before .before .if3 .left) _ (order-lent _ (h .ensures .0 (a .query .now) .0 e) (h .result) (h .ensures .1 e) e) (c .before .before .run .result) _ (c .before .before .run .ensures) (c .if4 .left) refl refl
+returns-5 c = let h = c .before .before .before .before .before .before .before .before .before .before .before .before .before .before .before .order-of in let a = c .before .before .before .before .before .before .before .before .before .before .before .before .before .before .before .before .before .before .before .before .before .before .before .args in let e = not-false _ (c .before .before .before .before .before .before .before .before .before .before .before .before .before .if1 .left) in all-found _ _ _ _ (h .result .ok) (h .ensures .0 (a .query .now)) e (c .before .before .before .before .before .before .before .before .before .before .before .before .read .result) (c .before .before .before .before .before .before .before .before .before .before .before .before .read .ensures .1) (not-false _ (c .before .before .before .before .before .before .before .before .before .before .if2 .left)) (c .before .before .before .before .before .before .before .before .before .sound-leaves .result) (c .before .before .before .before .before .before .before .before .before .sound-leaves .ensures .1 (shape-bounds _ (h .ensures .0 (a .query .now) .0 e))) (c .before .before .before .before .before .before .before .before .if3 .left) _ (order-lent (a .leaf-ends .now) _ _ (h .ensures .0 (a .query .now) .0 e .dated) (h .result) (h .ensures .1 e) e) (c .before .before .run .result) _ (c .before .before .run .ensures) (c .if4 .left) refl refl
 
 pub search-spec : {M : Type 1} → statement M
 search-spec =

@@ -5,13 +5,13 @@ use native.Mathlib.Omega.{arith}
 use mathlib.Core.Path.{_≡_, refl, sym, ap, _∙_}
 use mathlib.Core.List.{List, _++_, append-assoc}
 use lib.ListN.{length, getD, take, drop, length-append}
-use Rattle.common.specs.Bytes.{over}
+use Rattle.common.specs.Bytes.{over, fitted}
+use Rattle.common.proofs.Rooms.{Wrote, wrote-first, wrote-length, wrote-within, wrote-free, wrote-more, wrote-again, wrote-under, fitted-more}
 use Rattle.varint.specs.Varint.{encode}
 use Rattle.doclist.specs.Docid.{bitsOf}
 use Rattle.doclist.specs.Doclist.{encodeAll}
 use Rattle.writer.specs.Stored.{rowNumbers, numbersFrom, listBytes, Rises}
 use Rattle.writer.proofs.Lists.{rises-end, rises-here, rises-next, numbers-next, numbers-next-length}
-use Rattle.writer.proofs.Writing.{Wrote, wrote-first, wrote-length, wrote-within, wrote-free, wrote-more, wrote-again, wrote-under}
 use borrow.Author.Needs.{needs}
 use Rattle.writer.proofs.terms.put_list.Statement.{statement}
 use Rattle.writer.proofs.terms.put_list.Tie as tie
@@ -29,7 +29,7 @@ first c =
     let b = c .before .before .bits-of .ensures in
     wrote-first (z .args .out .now) (c .put-number .last .0) (encode (bitsOf (z .args .docid))) (c .put-number .result)
     (omega (arith, z .pre .1, length-append (encode (bitsOf (z .args .docid))) (encodeAll (numbersFrom 0 (z .args .rows .now)))))
-    (c .put-number .ensures .0 ∙ ap (λ n. length (encode n)) b, c .put-number .ensures .1 ∙ ap (λ n. over (encode n) (z .args .out .now)) b)
+    (c .put-number .ensures .0 ∙ ap (λ n. length (encode n)) b, c .put-number .ensures .1 ∙ ap (λ n. fitted (encode n) (z .args .out .now)) b)
 
 -- the list fits
 fits : (c : tie.At-loop Inv-loop μ-loop) → length (listBytes (c .before .before .before .before .before .before .before .before .args .docid) (c .before .before .before .before .before .before .before .before .args .rows .now)) ≤ length (c .before .before .before .put-number .last .0)
@@ -56,15 +56,13 @@ closed : (c : tie.After-put-number2 Inv-loop μ-loop) → Wrote (c .before .befo
     (take (c .before .before .before .loop .at) (c .before .before .before .loop .out) ++ (c .put-number2 .last .0 ++ drop (length (c .before .before .before .loop .out) - c .before .before .before .loop .at) (drop (c .before .before .before .loop .at) (c .before .before .before .loop .out))))
     (c .before .before .before .loop .inv .0 ++ encode 0) (c .before .before .before .loop .at + c .put-number2 .result)
 closed c =
-    wrote-more (c .before .before .before .loop .inv .1) (encode 0) (c .put-number2 .last .0) (c .put-number2 .result) (end-fits (c .before .before)) (c .put-number2 .ensures .0) (c .put-number2 .ensures .1)
+    fitted-more (c .before .before .before .loop .inv .1) (encode 0) (c .put-number2 .last .0) (c .put-number2 .result) (end-fits (c .before .before)) (c .put-number2 .ensures .0) (c .put-number2 .ensures .1)
 
 bits-of-requires : tie.Need-bits-of-requires Inv-loop μ-loop
 bits-of-requires c κs = search needs
 
 put-number-requires : tie.Need-put-number-requires Inv-loop μ-loop
-put-number-requires c κs =
-    let z = c .before .before .before .before in
-    omega (arith, z .pre .1, ap (λ n. length (encode n)) (c .before .bits-of .ensures), length-append (encode (bitsOf (z .args .docid))) (encodeAll (numbersFrom 0 (z .args .rows .now))))
+put-number-requires c κs = search needs
 
 loop-holds : tie.Need-loop-holds Inv-loop μ-loop
 loop-holds c =
@@ -135,7 +133,7 @@ part-put-number-end : tie.Need-part-put-number-end Inv-loop μ-loop
 part-put-number-end c = search needs
 
 put-number-requires-2 : tie.Need-put-number-requires-2 Inv-loop μ-loop
-put-number-requires-2 c κs = wrote-free (c .before .before .loop .inv .1) (encode 0) (end-fits (c .before))
+put-number-requires-2 c κs = search needs
 
 add-result : tie.Need-add-result Inv-loop μ-loop
 add-result c =

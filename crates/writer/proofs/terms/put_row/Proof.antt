@@ -4,12 +4,12 @@ use native.Mathlib.Omega.{arith}
 use mathlib.Core.Path.{_≡_, sym, ap, _∙_}
 use mathlib.Core.List.{_++_}
 use lib.ListN.{length, take, drop, length-append}
-use Rattle.common.specs.Bytes.{over}
+use Rattle.common.specs.Bytes.{over, fitted}
+use Rattle.common.proofs.Rooms.{Wrote, wrote-first, wrote-within, fitted-more, fitted-over}
 use Rattle.varint.specs.Varint.{encode}
 use Rattle.doclist.specs.Doclist.{encodeAll}
 use Rattle.writer.specs.Stored.{rowNumbers}
 use Rattle.writer.proofs.Lists.{row-same, row-other, row-other-length}
-use Rattle.writer.proofs.Writing.{Wrote, wrote-first, wrote-within, wrote-free, wrote-more}
 use borrow.Author.Needs.{needs}
 use Rattle.writer.proofs.terms.put_row.Statement.{statement}
 use Rattle.writer.proofs.terms.put_row.Tie as tie
@@ -46,7 +46,7 @@ two : (c : tie.After-put-number3) → Wrote (c .before .before .before .before .
     (take (c .before .before .before .before .put-number2 .result) (c .before .before .before .before .put-number2 .last .0) ++ (c .put-number3 .last .0 ++ drop (length (c .before .before .before .before .put-number2 .last .0) - (c .before .before .before .before .put-number2 .result)) (drop (c .before .before .before .before .put-number2 .result) (c .before .before .before .before .put-number2 .last .0))))
     (encode 1 ++ encode (c .before .before .before .before .before .before .before .before .before .column-of .result)) (c .before .before .before .before .put-number2 .result + c .put-number3 .result)
 two c =
-    wrote-more (one (c .before .before .before .before)) (encode (c .before .before .before .before .before .before .before .before .before .column-of .result)) (c .put-number3 .last .0) (c .put-number3 .result)
+    fitted-more (one (c .before .before .before .before)) (encode (c .before .before .before .before .before .before .before .before .before .column-of .result)) (c .put-number3 .last .0) (c .put-number3 .result)
     (omega (arith, room (c .before .before .before .before .before .before))) (c .put-number3 .ensures .0) (c .put-number3 .ensures .1)
 
 announced-length : (c : tie.After-put-number3) → length (encode 1 ++ encode (c .before .before .before .before .before .before .before .before .before .column-of .result)) ≡ length (encode 1) + length (encode (c .before .before .before .before .before .before .before .before .before .column-of .result))
@@ -71,7 +71,7 @@ add-put-number : tie.Need-add-put-number
 add-put-number c = search needs
 
 put-number-requires : tie.Need-put-number-requires
-put-number-requires c κs = omega (arith, c .before .before .before .before .before .before .before .pre .1, ap length (same c))
+put-number-requires c κs = search needs
 
 same-length : tie.Need-same-length
 same-length c = search needs
@@ -80,10 +80,13 @@ returns : tie.Need-returns
 returns c =
     let z = c .before .before .before .before .before .before .before .before .before .before in
     let e = same (c .before .before .before) in
-    (c .before .before .put-number .ensures .0 ∙ sym (ap length e), c .before .before .put-number .ensures .1 ∙ sym (ap (λ w. over w (z .args .out .now)) e))
+    let p = c .before .before .put-number in (
+      p .ensures .0 ∙ sym (ap length e),
+      p .ensures .1 ∙ sym (ap (λ w. fitted w (z .args .out .now)) e) ∙ fitted-over (encodeAll (rowNumbers (z .args .last) (z .args .row))) (z .args .out .now) (z .pre .1),
+    )
 
 put-number-requires-2 : tie.Need-put-number-requires-2
-put-number-requires-2 c κs = omega (arith, room (c .before))
+put-number-requires-2 c κs = search needs
 
 sub-put-number-2 : tie.Need-sub-put-number-2
 sub-put-number-2 c = wrote-within (one (c .before .before))
@@ -95,7 +98,7 @@ part-put-number-end : tie.Need-part-put-number-end
 part-put-number-end c = search needs
 
 put-number-requires-3 : tie.Need-put-number-requires-3
-put-number-requires-3 c κs = wrote-free (one (c .before .before .before)) (encode (c .before .before .before .before .before .before .before .before .column-of .result)) (omega (arith, room (c .before .before .before .before .before)))
+put-number-requires-3 c κs = search needs
 
 add-at : tie.Need-add-at
 add-at c = omega (arith, two (c .before .before) .ends, two (c .before .before) .fits)
@@ -113,7 +116,7 @@ add-put-number-2 : tie.Need-add-put-number-2
 add-put-number-2 c = search needs
 
 put-number-requires-4 : tie.Need-put-number-requires-4
-put-number-requires-4 c κs = wrote-free (two (c .before .before .before)) (encode (c .before .before .before .before .before .before .before .before .before .before .before .position-of .result + 2)) (omega (arith, room (c .before .before .before .before .before .before .before .before .before), announced-length (c .before .before .before)))
+put-number-requires-4 c κs = search needs
 
 add-result : tie.Need-add-result
 add-result c = omega (arith, c .before .before .before .before .before .before .before .before .before .before .put-number2 .ensures .0, c .before .before .before .before .before .before .put-number3 .ensures .0, c .before .before .put-number4 .ensures .0, room (c .before .before .before .before .before .before .before .before .before .before .before .before))
@@ -123,7 +126,7 @@ same-length-2 c = search needs
 
 returns-2 : tie.Need-returns-2
 returns-2 c =
-    let w = wrote-more (two (c .before .before .before .before .before .before)) (encode (c .before .before .before .before .before .before .before .before .before .before .before .before .before .before .position-of .result + 2)) (c .before .before .put-number4 .last .0) (c .before .before .put-number4 .result)
+    let w = fitted-more (two (c .before .before .before .before .before .before)) (encode (c .before .before .before .before .before .before .before .before .before .before .before .before .before .before .position-of .result + 2)) (c .before .before .put-number4 .last .0) (c .before .before .put-number4 .result)
     (omega (arith, room (c .before .before .before .before .before .before .before .before .before .before .before .before), announced-length (c .before .before .before .before .before .before))) (c .before .before .put-number4 .ensures .0) (c .before .before .put-number4 .ensures .1) in
     let e = other (c .before .before .before .before .before .before .before .before .before .before .before .before) in
     (w .ends ∙ sym (ap length e), w .is ∙ sym (ap (λ l. over l (c .before .before .before .before .before .before .before .before .before .before .before .before .before .before .before .before .before .args .out .now)) e))

@@ -5,12 +5,13 @@ use native.Mathlib.Omega.{arith}
 use mathlib.Core.Path.{_≡_, refl, sym, ap, _∙_}
 use mathlib.Core.List.{List, [], _++_, append-assoc, append-nil}
 use lib.ListN.{length, getD, take, drop, length-append}
-use Rattle.common.specs.Bytes.{over}
+use Rattle.common.specs.Bytes.{over, fitted}
+use Rattle.common.proofs.Rooms.{Wrote, wrote-length, wrote-within, wrote-free, wrote-more, fitted-more}
 use Rattle.leaf.specs.Leaf.{sized}
+use Rattle.storing.specs.Words.{wordBytes}
 use Rattle.writer.specs.Rows.{rowWord}
-use Rattle.writer.specs.Stored.{listBytes, wordBytes, termsFrom, termsOf}
+use Rattle.writer.specs.Stored.{listBytes, termsFrom, termsOf}
 use Rattle.writer.proofs.TermLaws.{AtRun, runs-start, runs-end, run-inside, run-within, run-rows, runs-next, runs-term}
-use Rattle.writer.proofs.Writing.{Wrote, wrote-length, wrote-within, wrote-free, wrote-more}
 use borrow.Author.Needs.{needs}
 use Rattle.writer.proofs.terms.put_terms.Statement.{statement}
 use Rattle.writer.proofs.terms.put_terms.Tie as tie
@@ -48,9 +49,9 @@ word c =
     let p = c .put-word in
     let room = take (length (c .before .before .before .before .before .before .before .before .loop .out) - c .before .before .before .before .before .before .before .before .loop .at) (drop (c .before .before .before .before .before .before .before .before .loop .at) (c .before .before .before .before .before .before .before .before .loop .out)) in
     let e = c .before .word-of2 .ensures in
-    wrote-more (c .before .before .before .before .before .before .before .before .loop .inv .3) (wordBytes (rowWord (c .before .before .before .before .before .before .before .before .before .before .before .before .args .folded .now) (c .before .before .before .before .before .before .before .before .loop .last)) (c .before .before .before .before .before .word-of .result .now)) (p .last .0) (p .result) (omega (arith, fits (c .before .before .before)))
+    fitted-more (c .before .before .before .before .before .before .before .before .loop .inv .3) (wordBytes (rowWord (c .before .before .before .before .before .before .before .before .before .before .before .before .args .folded .now) (c .before .before .before .before .before .before .before .before .loop .last)) (c .before .before .before .before .before .word-of .result .now)) (p .last .0) (p .result) (omega (arith, fits (c .before .before .before)))
     (p .ensures .0 ∙ ap (λ x. length (wordBytes x (c .before .before .before .before .before .word-of .result .now))) e)
-    (p .ensures .1 ∙ ap (λ x. over (wordBytes x (c .before .before .before .before .before .word-of .result .now)) room) e)
+    (p .ensures .1 ∙ ap (λ x. fitted (wordBytes x (c .before .before .before .before .before .word-of .result .now)) room) e)
 
 done-length : (c : tie.After-run Inv-loop μ-loop) → length (c .before .before .before .before .before .loop .inv .1 ++ (wordBytes (rowWord (c .before .before .before .before .before .before .before .before .before .args .folded .now) (c .before .before .before .before .before .loop .last)) (c .before .before .word-of .result .now))) ≡ length (c .before .before .before .before .before .loop .inv .1) + length (wordBytes (rowWord (c .before .before .before .before .before .before .before .before .before .args .folded .now) (c .before .before .before .before .before .loop .last)) (c .before .before .word-of .result .now))
 done-length c = length-append (c .before .before .before .before .before .loop .inv .1) (wordBytes (rowWord (c .before .before .before .before .before .before .before .before .before .args .folded .now) (c .before .before .before .before .before .loop .last)) (c .before .before .word-of .result .now))
@@ -108,10 +109,7 @@ word-of-requires-2 : tie.Need-word-of-requires-2 Inv-loop μ-loop
 word-of-requires-2 c κs = c .before .before .before .before .before .before .loop .inv .2 .last-inside
 
 put-word-requires : tie.Need-put-word-requires Inv-loop μ-loop
-put-word-requires c κs =
-    let l = c .before .before .before .before .before .before .before .loop in
-    let f = wrote-free (l .inv .3) (wordBytes (rowWord (c .before .before .before .before .before .before .before .before .before .before .before .args .folded .now) (c .before .before .before .before .before .before .before .loop .last)) (c .before .before .before .before .word-of .result .now)) (omega (arith, fits (c .before .before))) in
-    omega (arith, f, ap (λ x. length (wordBytes x (c .before .before .before .before .word-of .result .now))) (c .word-of2 .ensures))
+put-word-requires c κs = search needs
 
 add-at : tie.Need-add-at Inv-loop μ-loop
 add-at c = omega (arith, word (c .before .before) .ends, word (c .before .before) .fits)

@@ -1,0 +1,2 @@
+-- The definitions of this crate, in the order in which they build on each other.
+pub mod Lists
