@@ -10,7 +10,7 @@ use Rattle.varint.specs.Varint.{encode, maxVarint, readAt}
 use Rattle.varint.specs.declared.Varint.the-variants.{Value}
 use Rattle.varint.proofs.Laws.{encode-pos}
 use Rattle.doclist.specs.Docid.{docidLimit, zeroKey, difference}
-use Rattle.doclist.specs.Doclist.{Entry, Columns, Entries, WellFormed, columnNumbers, entryNumbers, encodeAll, entryBytes, encodeFrom, encodeList}
+use Rattle.doclist.specs.Doclist.{Entry, Columns, Entries, WellFormed, columnNumbers, entryNumbers, encodeAll, entryBytes, encodeFrom, encodeList, lastDocid}
 use Rattle.doclist.proofs.Docids.{difference-limit}
 use Rattle.doclist.proofs.Numbers.{Small, small-append, next-number, listNumbers}
 use Rattle.doclist.proofs.Law.{small-columns, small-entries}
@@ -49,11 +49,6 @@ entry-one low count (x ∷ es) d e h m n s =
     (List·Memᴰ·cases-cons m)
 
 -- ---- the docid before an entry
-
--- the last docid of the entries, or `before` where there is none
-abbrev pub lastDocid : ℕ → List Entry → ℕ
-lastDocid before [] = before
-lastDocid before (e ∷ es) = lastDocid (e .docid) es
 
 -- an entry in the middle: it and those after it keep the rules, and its docid is not below the one before
 pub entries-behind : (low before count : ℕ) (passed : List Entry) (e : Entry) (after : List Entry) → before ≤ low → Entries low count (passed ++ (e ∷ after))

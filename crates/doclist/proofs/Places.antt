@@ -12,8 +12,8 @@ use Rattle.common.specs.Bytes.{part}
 use Rattle.common.proofs.Cases.{same-or}
 use Rattle.common.proofs.Lists.{drop-room}
 use Rattle.doclist.specs.Docid.{zeroKey}
-use Rattle.doclist.specs.Doclist.{Entry, Entries, entryBytes, encodeFrom, encodeList, entryPlaceFrom, entryPlace}
-use Rattle.doclist.proofs.Entries.{entry-good, lastDocid, encode-append, entry-pos}
+use Rattle.doclist.specs.Doclist.{Entry, Entries, entryBytes, encodeFrom, encodeList, entryPlaceFrom, entryPlace, lastDocid}
+use Rattle.doclist.proofs.Entries.{entry-good, encode-append, entry-pos}
 use Rattle.doclist.specs.declared.EntryAt.the-variants.{At, Absent, Refused}
 
 -- ---- one entry

@@ -103,6 +103,11 @@ encodeFrom before (e ∷ es) = entryBytes before e ++ encodeFrom (e .docid) es
 abbrev pub encodeList : List Entry → List ℕ
 encodeList es = encodeFrom zeroKey es
 
+-- the last docid of entries, or `before` where there is none
+abbrev pub lastDocid : ℕ → List Entry → ℕ
+lastDocid before [] = before
+lastDocid before (e ∷ es) = lastDocid (e .docid) es
+
 -- ---- where the entry of a docid stands: from its docid number to its closing 0
 
 -- entries after the docid `before`, which stand from the place `at` on

@@ -11,4 +11,3 @@ pub mod Totals
 pub mod Written
 pub mod Kept
 pub mod Making
-pub mod Grouping

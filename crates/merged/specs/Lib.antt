@@ -2,4 +2,3 @@
 pub mod Merged
 pub mod Totals
 pub mod Lending
-pub mod Grouping

@@ -15,8 +15,8 @@ use Rattle.common.proofs.Lists.{length-take-most}
 use Rattle.varint.specs.Varint.{maxVarint, encode}
 use Rattle.varint.proofs.Laws.{encode-most}
 use Rattle.doclist.specs.Docid.{docidLimit, zeroKey, difference}
-use Rattle.doclist.specs.Doclist.{Entry, encodeFrom, encodeList}
-use Rattle.doclist.proofs.Entries.{lastDocid, encode-append}
+use Rattle.doclist.specs.Doclist.{Entry, encodeFrom, encodeList, lastDocid}
+use Rattle.doclist.proofs.Entries.{encode-append}
 use Rattle.meaning.specs.Index.{nothing}
 use Rattle.cursors.specs.Groups.{firstFor, EveryList}
 use Rattle.cursors.proofs.Each.{EntriesOrdered}

@@ -4,11 +4,9 @@ use native.Mathlib.Omega.{arith}
 use mathlib.Core.Path.{_≡_, refl, _∙_}
 use mathlib.Core.List.{List, [], _∷_, _++_}
 use Rattle.common.proofs.Cases.{same-or}
-use Rattle.doclist.specs.Doclist.{Entry, Entries}
-use Rattle.doclist.proofs.Entries.{lastDocid}
+use Rattle.doclist.specs.Doclist.{Entry, Entries, lastDocid}
 use Rattle.meaning.specs.Index.{nothing, entryFor}
 use Rattle.merged.proofs.Finding.{entry-here, entry-next}
-use Rattle.postings.specs.Lists.{finalDocid}
 
 -- all docids are below the bound
 abbrev pub Below : ℕ → List Entry → Type 0
@@ -55,18 +53,14 @@ pub last-join : (before : ℕ) (es : List Entry) (e : Entry) (fs : List Entry) �
 last-join before [] e fs = refl
 last-join before (x ∷ es) e fs = last-join (x .docid) es e fs
 
-pub final-last : (before : ℕ) (es : List Entry) → finalDocid before es ≡ lastDocid before es
-final-last before [] = refl
-final-last before (e ∷ es) = final-last (e .docid) es
-
 -- ---- parted
 
 -- entries after the docid `before`, parted: those in front end at their last docid, and the others are after it
 pub record Parted (before : ℕ) (es fs : List Entry) : Type 0 where
   pub front : Entries (suc before) 16 es
-  pub behind : Entries (suc (finalDocid before es)) 16 fs
-  pub below : Below (finalDocid before es + 1) es
-  pub onward : before ≤ finalDocid before es
+  pub behind : Entries (suc (lastDocid before es)) 16 fs
+  pub below : Below (lastDocid before es + 1) es
+  pub onward : before ≤ lastDocid before es
 
 pub parted : (before : ℕ) (es fs : List Entry) → Entries (suc before) 16 (es ++ fs) → Parted before es fs
 parted before [] fs h = record { front = tt; behind = h; below = tt; onward = omega arith }

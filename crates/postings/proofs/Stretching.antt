@@ -7,18 +7,17 @@ use mathlib.Core.List.{List, [], _∷_, _++_, append-assoc}
 use lib.ListN.{length, getD, drop, length-append}
 use Rattle.common.specs.Bytes.{part, span}
 use Rattle.common.proofs.Parts.{part-here}
-use Rattle.doclist.specs.Doclist.{Entry, encodeFrom}
-use Rattle.doclist.proofs.Entries.{lastDocid, encode-append}
+use Rattle.doclist.specs.Doclist.{Entry, encodeFrom, lastDocid}
+use Rattle.doclist.proofs.Entries.{encode-append}
 use Rattle.meaning.specs.Index.{entry}
 use Rattle.row.specs.Row.{bodyBytes}
 use Rattle.cursors.specs.Groups.{lastKey}
 use Rattle.cursors.specs.Arrays.{isOpen, StandsOn, ListAt}
 use Rattle.merged.specs.Merged.{keptEntry}
-use Rattle.postings.specs.Lists.{isDropped, EachKept, finalDocid, Stretched}
+use Rattle.postings.specs.Lists.{isDropped, EachKept, Stretched}
 use Rattle.postings.specs.declared.Place.{Place}
 use Rattle.postings.specs.declared.Stretch.{Stretch}
 use Rattle.postings.proofs.Closing.{dropped-not, body-ends}
-use Rattle.postings.proofs.Growing.{final-last}
 
 -- ---- one more
 
@@ -26,7 +25,7 @@ each-more : (keep : Bool) (rest : ℕ) (x : Entry) (es : List Entry) → x .doci
 each-more keep rest x [] l q k = (l, q, tt)
 each-more keep rest x (e ∷ es) l q k = (k .0, k .1, each-more keep rest x es l q (k .2))
 
-final-more : (before : ℕ) (x : Entry) (es : List Entry) → finalDocid before (es ++ x ∷ []) ≡ x .docid
+final-more : (before : ℕ) (x : Entry) (es : List Entry) → lastDocid before (es ++ x ∷ []) ≡ x .docid
 final-more before x [] = refl
 final-more before x (e ∷ es) = final-more (e .docid) x es
 
@@ -82,7 +81,7 @@ pub stretch-bytes : {keep : Bool} {leaves : List ℕ} {rest docid body last : �
 stretch-bytes {leaves = leaves} {body = body} {last = last} {e = e} {es = es} {r = r} on s =
     let b : List ℕ = bodyBytes (e .columns) in
     let w : List ℕ = encodeFrom (e .docid) (s .run) in
-    let f : r .last ≡ lastDocid (e .docid) (s .run) = s .final ∙ final-last (e .docid) (s .run) in
+    let f : r .last ≡ lastDocid (e .docid) (s .run) = s .final in
     let v : List ℕ = encodeFrom (r .last) (s .left) in
     let whole : encodeFrom (e .docid) es ≡ w ++ v =
     ap (encodeFrom (e .docid)) (s .whole) ∙ encode-append (e .docid) (s .run) (s .left) ∙ ap (λ (d : ℕ). w ++ encodeFrom d (s .left)) (sym f) in

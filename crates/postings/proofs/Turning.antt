@@ -11,19 +11,18 @@ use Rattle.common.specs.Bytes.{part}
 use Rattle.common.proofs.Cases.{split, same-or}
 use Rattle.varint.specs.Varint.{encode}
 use Rattle.doclist.specs.Docid.{zeroKey, difference}
-use Rattle.doclist.specs.Doclist.{Entry, Entries, encodeFrom}
-use Rattle.doclist.proofs.Entries.{lastDocid}
+use Rattle.doclist.specs.Doclist.{Entry, Entries, encodeFrom, lastDocid}
 use Rattle.meaning.specs.Index.{nothing, entry, entryFor}
 use Rattle.row.specs.Row.{bodyBytes}
 use Rattle.cursors.specs.Groups.{firstFor}
 use Rattle.cursors.specs.Arrays.{StandsOn, ListAt}
 use Rattle.merged.specs.Merged.{keptEntry}
 use Rattle.merged.proofs.Finding.{entry-here, entry-next, entry-below}
-use Rattle.postings.specs.Lists.{FirstOf, EachKept, finalDocid, PassedOver, TakenUp, Turned, turnBytes, EntriesStored}
+use Rattle.postings.specs.Lists.{FirstOf, EachKept, PassedOver, TakenUp, Turned, turnBytes, EntriesStored}
 use Rattle.postings.specs.declared.First.{First}
 use Rattle.postings.specs.declared.Turn.{Turn}
 use Rattle.postings.specs.declared.Stored.{Stored}
-use Rattle.postings.proofs.Growing.{Below, entry-behind, entry-front, last-join, final-last, Parted, parted}
+use Rattle.postings.proofs.Growing.{Below, entry-behind, entry-front, last-join, Parted, parted}
 use Rattle.postings.proofs.Stretching.{stretch-bytes}
 use Rattle.postings.proofs.Merging.{MergedBelow, merged-more}
 use Rattle.postings.proofs.Counting.{Content, content-skip, content-more}
@@ -38,9 +37,9 @@ kept-found keep rest d (e ∷ es) h =
     (λ q. let f = entry-here e es d q in ap (keptEntry keep) f ∙ h .1 ∙ sym f)
     (λ q. let f = entry-next e es d q in ap (keptEntry keep) f ∙ kept-found keep rest d es (h .2) ∙ sym f)
 
-final-rest : (keep : Bool) (rest before : ℕ) (es : List Entry) → EachKept keep rest es → (finalDocid before es ≡ before) ⊎ (finalDocid before es < rest)
+final-rest : (keep : Bool) (rest before : ℕ) (es : List Entry) → EachKept keep rest es → (lastDocid before es ≡ before) ⊎ (lastDocid before es < rest)
 final-rest keep rest before [] h = inl refl
-final-rest keep rest before (e ∷ es) h = inr (⊎-elim (λ (q : finalDocid (e .docid) es ≡ e .docid). omega (arith, h .0)) (λ l. l) (final-rest keep rest (e .docid) es (h .2)))
+final-rest keep rest before (e ∷ es) h = inr (⊎-elim (λ (q : lastDocid (e .docid) es ≡ e .docid). omega (arith, h .0)) (λ l. l) (final-rest keep rest (e .docid) es (h .2)))
 
 -- ---- the turn
 
@@ -117,7 +116,7 @@ module _ {write keep : Bool} {leaves docids bodies lasts : List ℕ} {n : ℕ} {
     parts : Parted (e .docid) run behind
     parts = parted (e .docid) run behind (subst (Entries (suc (e .docid)) 16) (t .after .whole) (on .later))
 
-    final : turn .last ≡ finalDocid (e .docid) run
+    final : turn .last ≡ lastDocid (e .docid) run
     final = t .after .final
 
     onward : e .docid ≤ turn .last
@@ -128,9 +127,9 @@ module _ {write keep : Bool} {leaves docids bodies lasts : List ℕ} {n : ℕ} {
 
     run-is : (k : ℕ) → from ≤ k → e .docid < k → k < turn .last + 1 → entryFor k (e ∷ run) ≡ keptEntry keep (firstFor k lists)
     run-is k a b l =
-        let before : k < f .rest = ⊎-elim (λ (z : finalDocid (e .docid) run ≡ e .docid). absurd (omega (arith, final))) (λ z. omega (arith, final)) (final-rest keep (f .rest) (e .docid) run (t .after .kept)) in
+        let before : k < f .rest = ⊎-elim (λ (z : lastDocid (e .docid) run ≡ e .docid). absurd (omega (arith, final))) (λ z. omega (arith, final)) (final-rest keep (f .rest) (e .docid) run (t .after .kept)) in
         let next : entryFor k (e ∷ run) ≡ entryFor k run = entry-next e run k (λ z. omega arith) in
-        let none : entryFor k behind ≡ nothing = entry-below (suc (finalDocid (e .docid) run)) 16 behind k (parts .behind) (omega (arith, final)) in
+        let none : entryFor k behind ≡ nothing = entry-below (suc (lastDocid (e .docid) run)) 16 behind k (parts .behind) (omega (arith, final)) in
         let whole : firstFor k lists ≡ entryFor k run =
         sym (same k a) ∙ first-later st f g some e es q (on .same) k before ∙ entry-next e es k (λ z. omega arith) ∙ ap (entryFor k) (t .after .whole) ∙ entry-front k run behind none in
         next ∙ sym (kept-found keep (f .rest) k run (t .after .kept)) ∙ sym (ap (keptEntry keep) whole)
@@ -163,7 +162,7 @@ module _ {write keep : Bool} {leaves docids bodies lasts : List ℕ} {n : ℕ} {
           left = behind;
           stands = t .after .stands;
           same = λ d m. sym (ap (λ (l : List Entry). entryFor d (e ∷ l)) (t .after .whole) ∙ entry-behind (turn .last + 1) d (e ∷ run) behind m below);
-          content = content-more c stores (t .some) (e ∷ run) bytes-are (turn .last + 1) merged (final ∙ final-last (e .docid) run ∙ sym (last-join zeroKey (c .entries) e run));
+          content = content-more c stores (t .some) (e ∷ run) bytes-are (turn .last + 1) merged (final ∙ sym (last-join zeroKey (c .entries) e run));
           onward = omega (arith, t .not-done, onward, on .same);
           reached = λ m. omega (arith, onward, on .same);
         }

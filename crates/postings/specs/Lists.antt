@@ -12,7 +12,7 @@ use Rattle.common.specs.Bytes.{part, over}
 use Rattle.common.specs.Frame.{KeptFrom}
 use Rattle.varint.specs.Varint.{maxVarint, encode}
 use Rattle.doclist.specs.Docid.{difference}
-use Rattle.doclist.specs.Doclist.{Entry, Entries, encodeFrom, encodeList}
+use Rattle.doclist.specs.Doclist.{Entry, Entries, encodeFrom, encodeList, lastDocid}
 use Rattle.meaning.specs.Index.{nothing, entry, entryFor}
 use Rattle.cursors.specs.Groups.{Group, firstFor, lastKey}
 use Rattle.cursors.specs.Arrays.{ListAt, CursorsAre}
@@ -61,18 +61,13 @@ abbrev pub EachKept : Bool → ℕ → List Entry → Type 0
 EachKept keep rest [] = Unit {0}
 EachKept keep rest (e ∷ es) = (e .docid < rest) × (keptEntry keep (entry e) ≡ entry e) × EachKept keep rest es
 
--- the docid of the last of some entries, or `before` where there is none
-abbrev pub finalDocid : ℕ → List Entry → ℕ
-finalDocid before [] = before
-finalDocid before (e ∷ es) = finalDocid (e .docid) es
-
 -- after the entry `e` the entries `run` are taken, and `left` is left
 pub record Stretched (keep : Bool) (leaves : List ℕ) (rest : ℕ) (e : Entry) (es : List Entry) (last : ℕ) (r : Stretch) : Type 0 where
   pub run : List Entry
   pub left : List Entry
   pub whole : es ≡ run ++ left
   pub kept : EachKept keep rest run
-  pub final : r .last ≡ finalDocid (e .docid) run
+  pub final : r .last ≡ lastDocid (e .docid) run
   pub ends : last + 1 ≡ r .end + length (encodeFrom (r .last) left)
   pub stands : ListAt leaves left (r .next .docid) (r .next .body) last
 
