@@ -1,6 +1,8 @@
 // The compared cases: each is read from standard input, and what the functions of a layer answer is written as one line.
 // A case is the number of what it asks for, two numbers, two fields with their ends, for a search, a verdict and a merge levels and indexes, and a
 // short field; those that it does not need are 0 or empty. A verdict has two more queries and three sizes after them. tests/make_cases.py makes the cases and, with the second program, the lines that are expected.
+#![tactic(auto)]
+
 mod documents;
 mod exchange;
 mod ground;

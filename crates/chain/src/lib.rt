@@ -2,6 +2,8 @@
 // candidates of a word are its positions, numbered as the row's walk finds them, and a bit for each says whether the chain so
 // far can end there. A word is held against the marked positions of the word before, so many at a time as there are keys;
 // these are in order, so that a row with many positions does not take the square of their number.
+#![tactic(auto)]
+
 ghost use Rattle.std.specs.Prelude.{◌≡◌, ◌↔◌, true, List, ◌+◌, ◌≤◌, ◌<◌, length};
 ghost use Rattle.row.specs.Row.{Hit};
 ghost use Rattle.row.specs.Walk.{WholeRow, candidates};
@@ -45,7 +47,7 @@ const COLUMN_SIZE: u64 = 0x1_0000_0000;
 
 // Where a word may stand beside the one before it in its chain: at `position`, where that one stands at a `place` with
 // position <= place + back, place < position + ahead and place != position + apart.
-#[derive(Drop)]
+#[derive(Clone, Copy)]
 struct Window {
     // The number of the word before.
     word: usize,

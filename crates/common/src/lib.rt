@@ -1,5 +1,7 @@
 // What more than one layer needs: document 01's bounds, whether two byte strings are the same, and clearing a room. The crate also holds the
 // definitions and laws that every layer above cites.
+#![tactic(auto)]
+
 ghost use Rattle.std.specs.Prelude.{◌≡◌, length};
 ghost use Rattle.common.specs.Bytes.{same};
 ghost use Rattle.common.specs.Rooms.{zeros};

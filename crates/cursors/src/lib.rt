@@ -4,6 +4,8 @@
 // after its docid number; all numbers are varints, and in a body only the closing one has a byte 0:
 //
 //     docid (later its difference)   body: for each column [1, column] position + 2, ..   0
+#![tactic(auto)]
+
 ghost use Rattle.std.specs.Prelude.{◌≡◌, ◌↔◌, true, false, List, ℕ, ◌+◌, ◌*◌, ◌^◌, ◌≤◌, ◌<◌, min, length, take, ltb};
 ghost use Rattle.common.specs.Pick.{pick, both};
 ghost use Rattle.common.specs.Bytes.{part, span};
@@ -29,7 +31,7 @@ const LAST_PLACE: usize = 65535;
 const BLOCK: usize = 16;
 
 // The docid to go on with, before the last one; or the last, where there may be no entry.
-#[derive(Drop)]
+#[derive(Clone, Copy)]
 pub enum Next {
     Docid(u64),
     Last,
@@ -37,7 +39,7 @@ pub enum Next {
 
 // What taking a row gives: how many hits it has; how many cursors stood on its docid, hidden ones too, and the last of them;
 // the least docid of the others, the last docid if there are none; where to go on.
-#[derive(Drop)]
+#[derive(Clone, Copy)]
 pub struct Taken {
     pub hits: usize,
     pub taken: usize,
@@ -49,7 +51,7 @@ pub struct Taken {
 // A scan for the row at a docid, as far as it has come: how many hits there are; whether the last cursor hides the next of
 // its group; how many cursors stood on the docid, and the last of them; the least docid of the others, and of those where
 // they moved to.
-#[derive(Drop)]
+#[derive(Clone, Copy)]
 struct Scan {
     hits: usize,
     hidden: bool,

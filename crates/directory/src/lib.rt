@@ -1,4 +1,6 @@
 // Which leaf is newer: the order of what is lent, by level and index (document 02, section 11).
+#![tactic(auto)]
+
 ghost use Rattle.std.specs.Prelude.{◌≡◌, ◌↔◌, true, false, ◌++◌, ◌∷◌, ℕ, ◌+◌, ◌≤◌, ◌<◌, length, get_or, take, drop};
 ghost use Rattle.common.specs.Bytes.{part};
 ghost use Rattle.common.specs.Bounds.{max_leaves};

@@ -3,6 +3,8 @@
 //     docid (later its difference)   for each column: [1, column]   position + 2, difference + 2, ..   0
 //
 // Column 0 is not announced. An entry with no column, `docid 0`, is a deletion. A docid stands here as its key (module `keys`).
+#![tactic(auto)]
+
 pub mod keys;
 
 ghost use Rattle.std.specs.Prelude.{◌≡◌, ◌↔◌, List, ◌<◌};

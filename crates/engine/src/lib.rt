@@ -1,5 +1,7 @@
 // A run of a compiled query over the leaves of an index: from docid to docid, the entries on each make a row, and the
 // docids of the rows that satisfy the query go to the result room.
+#![tactic(auto)]
+
 ghost use Rattle.std.specs.Prelude.{◌≡◌, true, List, ℕ, ◌+◌, ◌<◌, length, set};
 ghost use Rattle.std.specs.Int.Bits.{bit_and};
 ghost use Rattle.common.specs.Pick.{pick};

@@ -1,4 +1,6 @@
 // Whether a compiled query holds in one row: its codes in postfix order, with a stack of bits.
+#![tactic(auto)]
+
 ghost use Rattle.std.specs.Prelude.{◌≡◌, ◌≤◌};
 ghost use Rattle.lexer.specs.Token.{max_words};
 ghost use Rattle.chain.specs.Chains.{NotEvaluated, RoomsKept};

@@ -1,5 +1,7 @@
 // The counting box for C and Rust: see include/fts4box.h. A slice is passed as a pointer and a length. Each call returns the
 // number of its answer and stores the second one.
+#![tactic(auto)]
+
 ghost use Rattle.std.specs.Prelude.{◌≡◌, length, true, false};
 ghost use Rattle.leaf.specs.Answers.{check_numbers};
 ghost use Rattle.writer.specs.Answers.{numbers_of};

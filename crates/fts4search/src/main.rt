@@ -1,6 +1,8 @@
 // One search (document 01, "Marked examples", last paragraph): the query comes from standard input, the one leaf from the
 // file leaf0.bin, the columns are those of P12. It writes `docs` with the count and then each docid on a line of its own;
 // or `refused` with the two numbers; or `no leaf`.
+#![tactic(auto)]
+
 ghost use Rattle.std.specs.Prelude.{◌≤◌, length};
 
 use doclist::keys;

@@ -5,6 +5,8 @@
 //     each later word: prefix   length   suffix   list length   posting list
 //
 // The prefix is the number of bytes shared with the word before, the longest such; the last list ends at the leaf's end.
+#![tactic(auto)]
+
 ghost use Rattle.std.specs.Prelude.{◌≡◌, ◌↔◌, ◌+◌, ◌≤◌, length, take};
 ghost use Rattle.std.proofs.Math.Seq.{paste};
 ghost use Rattle.leaf.specs.Leaf.{SoundFront, is_before};

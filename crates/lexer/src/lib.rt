@@ -5,6 +5,8 @@
 //
 // `look` says what comes next without taking it; `take_operand` reads a word or phrase and puts its words into lent arrays
 // (module arrays).
+#![tactic(auto)]
+
 mod arrays;
 
 ghost use Rattle.std.specs.Prelude.{◌≡◌, true, false, ◌+◌, ◌≤◌, ◌<◌, ◌^◌, length, drop, ltb};
@@ -68,7 +70,7 @@ const MIN_NEAR: usize = 6;
 const MAX_NEAR: usize = 9;
 
 // The words of a query, in order.
-#[derive(Drop)]
+#[derive(Clone, Copy)]
 pub struct Words {
     // Their bytes, folded, one word after the other.
     pub text: [u8; MAX_QUERY],
@@ -86,7 +88,7 @@ pub struct Words {
 }
 
 // What comes next in a query.
-#[derive(Drop)]
+#[derive(Clone, Copy)]
 pub struct Ahead {
     pub kind: u8,
     // What ties an operand that comes after it.
@@ -116,7 +118,7 @@ struct Sign {
 }
 
 // Bytes that stretches are made of.
-#[derive(Drop)]
+#[derive(Clone, Copy)]
 enum Class {
     Run,
     Inner,

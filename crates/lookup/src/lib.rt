@@ -1,4 +1,6 @@
 // Lookups of document 01: the posting list of a word in one leaf, and the entry that decides in two.
+#![tactic(auto)]
+
 ghost use Rattle.std.specs.Prelude.{◌≡◌, ◌↔◌, List, true, ℕ, ◌≤◌, ◌<◌, length};
 ghost use Rattle.leaf.specs.Leaf.{Term, LeafIs};
 ghost use Rattle.lookup.specs.Order.{OrderIs, SharedMost, StandsIs};
@@ -36,7 +38,7 @@ enum Order {
 }
 
 // What looking a word up in one leaf answers.
-#[derive(Drop)]
+#[derive(Clone, Copy)]
 pub enum WordAnswer {
     // The word's posting list is `size` bytes from `start`; `read` numbers were read outside posting lists.
     Found {
@@ -244,7 +246,7 @@ pub fn lookup<'a>(
 // ---- two leaves
 
 // What looking for the entry that decides answers.
-#[derive(Drop)]
+#[derive(Clone, Copy)]
 pub enum EntryAnswer {
     // The newer leaf decides: the entry is `size` bytes from `start` in it.
     Newer { start: usize, size: usize },

@@ -1,5 +1,7 @@
 // The merge of leaves into one, of document 02: for each word and docid the entry that decides. The full merge (section 4) is of all
 // leaves of an index and drops deletions; the keeping merge (section 6) is of neighbours and keeps them.
+#![tactic(auto)]
+
 mod words;
 
 ghost use Rattle.std.specs.Prelude.{◌≡◌, ◌↔◌, true, false, ◌<◌, length, replicate};
@@ -9,7 +11,7 @@ ghost use Rattle.merge.specs.Merge.{ShapeRight, MergesTo, pair_answer};
 use directory::Order;
 
 // What a merge answers.
-#[derive(Drop)]
+#[derive(Clone, Copy)]
 pub enum Answer {
     // The leaf stands in the room: how many bytes it took, and the level and the index of the newest leaf lent. All are 0 where
     // nothing is left.

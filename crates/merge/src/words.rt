@@ -24,7 +24,7 @@ const QUERY_WORDS: usize = 16;
 const MAX_STEPS: usize = 65537;
 
 // The cursors of one word's lists, newest leaf first.
-#[derive(Drop)]
+#[derive(Clone, Copy)]
 struct Lists {
     docids: [u64; MAX_LEAVES],
     bodies: [u16; MAX_LEAVES],
@@ -42,7 +42,7 @@ struct Taken {
 }
 
 // What is stored.
-#[derive(Drop)]
+#[derive(Clone, Copy)]
 struct Stored {
     // The last word that was stored is the first `size` bytes.
     word: [u8; 64],

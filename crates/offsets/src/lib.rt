@@ -3,6 +3,8 @@
 //
 //     s     n o d e s e n t o u t c o m e
 //     ends        4       8            15
+#![tactic(auto)]
+
 ghost use Rattle.std.specs.Prelude.{◌≡◌, ◌↔◌, true, [], ℕ, ◌<◌, min, suc, get_or, length, drop};
 ghost use Rattle.offsets.specs.Cut.{cuts, Cuts, cut};
 ghost use Rattle.offsets.specs.Names.{is_name_byte, name_bytes, is_name, same_name, column_from, column_of, ColumnIs};

@@ -1,6 +1,8 @@
 // The start of a search: one pass over all leaves makes a cursor for each index word that some word of the query matches,
 // in each leaf that has it. The leaves' words rise, so the pass goes by words: of the leaves' next words that match, the
 // least is taken, from all leaves that have it. The leaves are gone through by `order`, their numbers, newest first.
+#![tactic(auto)]
+
 ghost use Rattle.std.specs.Prelude.{◌≡◌, ◌↔◌, true, List, [], ◌++◌, ℕ, ◌+◌, ◌*◌, ◌^◌, ◌≤◌, ◌<◌, length, drop, ltb};
 ghost use Rattle.common.specs.Pick.{pick};
 ghost use Rattle.common.specs.Bounds.{max_index_bytes, max_leaves};
@@ -34,7 +36,7 @@ const NO_CURSORS: usize = 0;
 const FIRST_WORD: usize = 1;
 
 // The first word that matches of those of a leaf that are not taken yet.
-#[derive(Drop)]
+#[derive(Clone, Copy)]
 pub struct Front {
     // The word is the first `size` bytes.
     word: [u8; 64],
@@ -69,7 +71,7 @@ pub struct WordLists {
 
 // The leaf with the least next word, by its number among those that are gone through, and its front; and the rival, the front with the
 // least word of the others.
-#[derive(Drop)]
+#[derive(Clone, Copy)]
 pub struct Lead {
     at: usize,
     front: Front,

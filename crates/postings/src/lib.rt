@@ -3,6 +3,8 @@
 // that is stored before it, so that its bytes stay as they are. Only the first is stored with a new difference:
 //
 //     difference   body: for each column [1, column] position + 2, ..   0   difference   body   ..
+#![tactic(auto)]
+
 ghost use Rattle.std.specs.Prelude.{ℕ, ◌+◌, ◌≤◌, ◌<◌, ◌≡◌, List, ◌++◌, length, ltb, eqb};
 ghost use Rattle.common.specs.Pick.{either};
 ghost use Rattle.common.specs.Bounds.{max_leaves, max_index_bytes};
@@ -23,14 +25,14 @@ use varint::Varint;
 const NO_BODY: u16 = 0;
 
 // Where a cursor stands.
-#[derive(Drop)]
+#[derive(Clone, Copy)]
 struct Place {
     docid: u64,
     body: u16,
 }
 
 // The cursor to go on with: the newest on the least docid, or `MAX_LEAVES` for none; the least docid of the others.
-#[derive(Drop)]
+#[derive(Clone, Copy)]
 struct First {
     at: usize,
     docid: u64,
@@ -47,7 +49,7 @@ struct Stretch {
 
 // What a cursor gives: where the bytes begin, from the body of the first entry on, and how many there are, 0 for no entry; the docid up to
 // which all is done; where the cursor stands then.
-#[derive(Drop)]
+#[derive(Clone, Copy)]
 struct Turn {
     start: usize,
     size: usize,

@@ -5,6 +5,8 @@
 //
 // `or_level`, `and_level`, `not_level` and `operand_level` call each other, one for each level of binding. Each reads from a
 // place of the text as much as its level allows, and answers where it stopped and what comes next there.
+#![tactic(auto)]
+
 mod postfix;
 
 ghost use Rattle.std.specs.Prelude.{◌≡◌, ℕ, ◌≤◌, List, length};
@@ -31,7 +33,7 @@ pub const CODE_OR: u8 = 2;
 pub const CODE_NOT: u8 = 3;
 
 // The NEAR chains and operators of a query in postfix order, a code for each.
-#[derive(Drop)]
+#[derive(Clone, Copy)]
 pub struct Ops {
     pub codes: [u8; MAX_CODES],
     pub len: usize,
@@ -39,7 +41,7 @@ pub struct Ops {
 
 // A compiled query: its words in order, each with how it is tied to the one before, and its codes. A NEAR chain takes
 // the words from one that begins an operand up to the next that does.
-#[derive(Drop)]
+#[derive(Clone, Copy)]
 pub struct Query {
     pub words: lexer::Words,
     pub ops: Ops,

@@ -4,6 +4,8 @@
 //     for each column: [1, column]   position + 2, difference + 2, ..   0
 //
 // Column 0 is not announced, and the sum of the positions starts anew in each column.
+#![tactic(auto)]
+
 ghost use Rattle.std.specs.Prelude.{◌≡◌, ◌^◌, ◌<◌, drop};
 ghost use Rattle.common.specs.Bits.{contains};
 ghost use Rattle.row.specs.Walk.{position_step, step_of, opened_of, first_of, First, NextPlace};

@@ -1,4 +1,6 @@
 // The search of document 01: all docids that satisfy a query over the leaves of an index.
+#![tactic(auto)]
+
 ghost use Rattle.std.specs.Prelude.{◌≡◌, ◌↔◌, true, List, ℕ, ◌≤◌, length};
 ghost use Rattle.common.specs.Rooms.{zeros};
 ghost use Rattle.offsets.specs.Cut.{cut};
@@ -11,7 +13,7 @@ use directory::Order;
 use leaf::LeafCheck;
 
 // What a search answers.
-#[derive(Drop)]
+#[derive(Clone, Copy)]
 pub enum Answer {
     // The docids are in the room: how many.
     Found(usize),

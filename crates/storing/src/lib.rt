@@ -2,6 +2,8 @@
 // the answer is how many bytes it takes, whether it fits or not. A word is stored as what it adds to the word before it:
 //
 //     prefix   length   suffix
+#![tactic(auto)]
+
 ghost use Rattle.std.specs.Prelude.{◌≡◌, ◌++◌, ◌≤◌, length, replicate};
 ghost use Rattle.common.specs.Bytes.{over, fitted};
 ghost use Rattle.varint.specs.Varint.{encode};

@@ -1,5 +1,7 @@
 // The call that only the benchmark links (bench/numbers.sh): the reading of stored numbers at given places. Built over the reader as
 // it is and over one that goes the long way alone, it tells what the short way is worth.
+#![tactic(auto)]
+
 ghost use Rattle.std.specs.Prelude.{◌≡◌, ◌%◌, ◌^◌, ◌<◌};
 ghost use Rattle.timing.specs.Numbers.{number_at, sum_at};
 

@@ -1,4 +1,6 @@
 // Words of document 01: the tokens of "simple".
+#![tactic(auto)]
+
 ghost use Rattle.std.specs.Prelude.{◌≡◌, ◌+◌, drop};
 ghost use Rattle.common.specs.Bytes.{span};
 ghost use Rattle.tokenizer.specs.Word.{is_digit, is_word, fold, entry_of, word_start, next_word, NextWordIs};

@@ -2,6 +2,8 @@
 //
 //     byte 0      byte 1            last byte
 //     1xxxxxxx    1xxxxxxx    ..    0xxxxxxx     seven bits to a byte, the lowest first
+#![tactic(auto)]
+
 ghost use Rattle.std.specs.Prelude.{◌≡◌, ◌↔◌, true, ℕ, ◌≤◌, ◌<◌, length};
 ghost use Rattle.common.specs.Bytes.{over};
 ghost use Rattle.varint.specs.Varint.{max_varint, tenth, encode, StoredAt, read_at, written_of, room_after};

@@ -1,4 +1,6 @@
 // The verdict sheet of document 02, section 13: the rows of a run counted by three queries, for pass, fail and silent.
+#![tactic(auto)]
+
 ghost use Rattle.std.specs.Prelude.{◌≡◌, ◌↔◌, true, List, map, ℕ, ◌+◌, ◌≤◌, length};
 ghost use Rattle.common.specs.Bytes.{within};
 ghost use Rattle.common.specs.Rooms.{zeros};
@@ -13,7 +15,7 @@ use search::Answer;
 const MAX_ROWS: u64 = 4096;
 
 // What a sheet answers.
-#[derive(Drop)]
+#[derive(Clone, Copy)]
 pub enum Sheet {
     // How many rows of the run are in each list, and in none.
     Counted {

@@ -1,6 +1,8 @@
 // The leaf for one document, of document 01. The document's words are sorted (rows), and the leaf is written from them
 // word by word (terms), each in the room that is still free. No buffer is lent: the texts are folded once into a local
 // array, and a second one holds a row for each word.
+#![tactic(auto)]
+
 mod rows;
 mod terms;
 
@@ -16,7 +18,7 @@ use tokenizer::Word;
 pub const MAX_DOCUMENT: usize = 4096;
 
 // What the writer answers.
-#[derive(Drop)]
+#[derive(Clone, Copy)]
 pub enum Answer {
     // The leaf stands in the room: how many bytes it took.
     Written(usize),

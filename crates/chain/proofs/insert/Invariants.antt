@@ -1,0 +1,16 @@
+-- `insert` meets its contract. The loop's invariant: the keys from `at` on are above the key, and are moved up by one
+-- (`Shifted`). The measure is `at`.
+use Prim.Native.Nat.{ℕ, ◌≤◌}
+use native.Mathlib.Omega.{arith}
+use mathlib.Core.Path.{◌≡◌, refl, subst}
+use lib.ListN.{length, set, length-set}
+use Rattle.chain.specs.Keys.{Inserts}
+use Rattle.chain.proofs.Keys.{Shifted, shifted_none, shifted_more, least_of, inserts}
+use borrow.Author.Rules.{rules}
+use Rattle.chain.proofs.insert.Given as goal
+
+abbrev pub invariant-loop-at : goal.invariant-loop-at
+invariant-loop-at l = (l.at ≤ l.count) × (length l.keys ≡ length l.initial.keys) × Shifted l.initial.keys l.keys l.count l.key l.at
+
+abbrev pub decreases-loop-at : goal.decreases-loop-at
+decreases-loop-at l = l.at

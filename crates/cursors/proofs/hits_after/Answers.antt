@@ -1,0 +1,6 @@
+-- `cursors::hits_after` meets its contract.
+use borrow.Author.Rules.{rules}
+use Rattle.cursors.proofs.hits_after.Goals as goal
+
+pub returns : goal.returns
+returns c = simp c.if-hidden.false

@@ -1,0 +1,37 @@
+-- `cursors::take_block` meets its contract. The loop's invariant: the cursors from `from` up to `i` are passed.
+use lib.ListN.{length-set, length, get_or, set}
+use Rattle.cursors.specs.Scanning.{over_other, over_hit, joined, Fits, BlockTaken, Scanned}
+use Rattle.cursors.proofs.Blocks.{block_begun, block_other, block_hit}
+use Rattle.cursors.proofs.Scanning.{scanned_other, scanned_hit}
+use mathlib.Core.Path.{◌≡◌, refl, sym, ap, ◌∙◌, subst}
+use mathlib.Core.List.{List}
+use mathlib.Core.Bool.{Bool}
+use Prim.Native.Nat.{ℕ, ◌+◌, ◌-◌, ◌≤◌, ◌<◌, min}
+use native.Mathlib.Omega.{arith}
+use borrow.Author.Rules.{rules}
+use Rattle.cursors.specs.Groups.{Group}
+use Rattle.common.specs.Bytes.{part}
+use Rattle.common.proofs.Cases.{false_not_true}
+use Rattle.cursors.specs.Arrays.{StandsFor, least_of}
+use Rattle.cursors.specs.Frames.{RowFrame, other_than}
+use Rattle.cursors.proofs.Others.{rest_begun, rest_other, rest_hit}
+use Rattle.cursors.proofs.Framing.{frame_others, frame_hit}
+use Rattle.cursors.specs.declared.Scan.{Scan}
+use Rattle.cursors.proofs.take_block.Given as goal
+
+abbrev pub invariant-loop-i : goal.invariant-loop-i
+invariant-loop-i l = (l.from ≤ l.i)
+    × Fits l.i l.to l.docids l.bodies l.lasts l.masks l.follows l.starts l.matched
+    × (length l.docids ≡ length l.initial.docids)
+    × (length l.bodies ≡ length l.initial.bodies)
+    × (length l.starts ≡ length l.initial.starts)
+    × (length l.matched ≡ length l.initial.matched)
+    × BlockTaken l.initial.docids l.docids l.from l.i l.scan
+    × ((n : ℕ) (gs : List Group) (earlier : Scan) → l.to ≤ n → Scanned l.leaves l.initial.docids l.initial.bodies l.lasts l.masks l.follows n l.initial.starts l.initial.matched l.docid gs (joined earlier l.initial.scan) l.from
+    → Scanned l.leaves l.docids l.bodies l.lasts l.masks l.follows n l.starts l.matched l.docid gs (joined earlier l.scan) l.i)
+    × ((d b s m : List ℕ) → RowFrame l.docid l.from d l.initial.docids b l.initial.bodies s l.initial.starts m l.initial.matched l.initial.scan.hits l.initial.scan.taken l.initial.scan.last
+    → RowFrame l.docid l.i d l.docids b l.bodies s l.starts m l.matched l.scan.hits l.scan.taken l.scan.last)
+    × (l.scan.rest ≡ least_of (other_than l.docid (part l.initial.docids l.from l.i)))
+
+abbrev pub decreases-loop-i : goal.decreases-loop-i
+decreases-loop-i l = l.to - l.i

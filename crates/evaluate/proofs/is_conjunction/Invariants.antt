@@ -1,0 +1,15 @@
+-- `is_conjunction` meets its contract. The loop's invariant: the codes that are left tell the same as all of them.
+use Prim.Native.Nat.{◌-◌}
+use native.Mathlib.Omega.{arith}
+use mathlib.Core.Path.{◌≡◌, refl, sym, ◌∙◌}
+use lib.ListN.{length, drop}
+use borrow.Author.Rules.{rules}
+use Rattle.evaluate.specs.Needs.{conjunctive}
+use Rattle.evaluate.proofs.Needing.{plain_end, plain_more, plain_stop}
+use Rattle.evaluate.proofs.is_conjunction.Given as goal
+
+abbrev pub invariant-loop-i : goal.invariant-loop-i
+invariant-loop-i l = conjunctive (drop l.i l.codes) ≡ conjunctive l.codes
+
+abbrev pub decreases-loop-i : goal.decreases-loop-i
+decreases-loop-i l = length l.codes - l.i

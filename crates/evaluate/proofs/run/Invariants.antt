@@ -1,0 +1,22 @@
+-- `run` meets its contract. The loop's invariant: the codes that are left, run on the stack, give the tree (`Running`). The measure
+-- is the number of codes that are left.
+use Prim.Native.Nat.{ℕ, ◌+◌, ◌-◌}
+use native.Mathlib.Omega.{arith}
+use mathlib.Core.Path.{◌≡◌, refl, sym, ◌∙◌}
+use mathlib.Core.List.{List}
+use lib.ListN.{length, get_or}
+use borrow.Author.Rules.{rules}
+use Rattle.query.specs.Tree.{Tree, tree_nodes, postfix}
+use Rattle.meaning.specs.Satisfies.{Live, StandsAt}
+use Rattle.row.specs.Row.{Hit}
+use Rattle.chain.specs.Chains.{chain_end, TiesAre, RowFits, Agrees, MarkRoom, RoomsKept}
+use Rattle.chain.proofs.Rooms.{rooms_all, rooms_again}
+use Rattle.evaluate.specs.Evaluate.{push_bit, applied, Fit}
+use Rattle.evaluate.proofs.Running.{running_same, room_same, Running, running_start, running_done, running_chain, running_op}
+use Rattle.evaluate.proofs.run.Given as goal
+
+abbrev pub invariant-loop-i : goal.invariant-loop-i
+invariant-loop-i l = (length l.marks ≡ length l.initial.marks) × (length l.spare ≡ length l.initial.spare) × ((tree : Tree) (hits : List Hit) (live : Live) (docid : ℕ) → Fit tree → TiesAre (tree_nodes tree) l.ties l.distances l.columns → l.codes ≡ postfix tree → RowFits l.leaves l.starts l.masks hits → Agrees (StandsAt live docid) (tree_nodes tree) hits → MarkRoom l.initial.marks l.initial.spare → Running tree live docid l.codes l.stack l.word l.i) × RoomsKept l.initial.marks l.marks l.initial.spare l.spare
+
+abbrev pub decreases-loop-i : goal.decreases-loop-i
+decreases-loop-i l = length l.codes - l.i

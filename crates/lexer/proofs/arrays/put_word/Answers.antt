@@ -1,0 +1,23 @@
+use Prim.Native.Nat.{◌-◌, ◌≤◌}
+use native.Mathlib.Omega.{arith}
+use mathlib.Core.Path.{◌≡◌, refl, ◌∙◌}
+use lib.ListN.{length, length-set}
+use borrow.Author.Rules.{rules}
+use Rattle.lexer.proofs.WordLaws.{writing, writing_none, writing_more, writing_all}
+use Rattle.lexer.proofs.arrays.put_word.Goals as goal
+
+pub loop-i-init : goal.loop-i-init
+loop-i-init c = (omega arith, refl, writing_none c.args.text.now c.args.at c.args.s.now)
+
+pub loop-i-preserved : goal.loop-i-preserved
+loop-i-preserved c = let a = c.args in
+    let l = c.loop-i in (
+      omega arith,
+      simp length-set l.invariant.1,
+      rw (c.folded.ensures, l.invariant.2) (writing_more a.text.now a.at a.s.now l.i (omega arith) c.loop-i-test.true),
+    )
+
+pub returns : goal.returns
+returns c = let a = c.args in
+    let l = c.loop-i in
+    l.invariant.2 ∙ writing_all a.text.now a.at a.s.now l.i (omega arith)

@@ -1,0 +1,12 @@
+-- `go_alone` meets its contract. The loop's invariant, `Alone`: some words of the leaf that leads were added. The measure is the steps that are left.
+use native.Mathlib.Omega.{arith}
+use mathlib.Core.Path.{◌∙◌}
+use borrow.Author.Tests.{not-true, not-false}
+use Rattle.merge.proofs.Stepping.{Alone, alone_start, alone_on, alone_out}
+use Rattle.merge.proofs.words.go_alone.Given as goal
+
+abbrev pub invariant-loop-stored : goal.invariant-loop-stored
+invariant-loop-stored l = Alone l.keep l.text l.stops l.marks l.leaves l.ends l.order l.initial.lead l.initial.stored l.initial.left l.initial.out l.lead l.stored l.left l.out
+
+abbrev pub decreases-loop-stored : goal.decreases-loop-stored
+decreases-loop-stored l = l.left

@@ -1,0 +1,28 @@
+use native.Mathlib.Omega.{arith}
+use Rattle.merge.proofs.Stepping.{Looping, loop_start, loop_on, loop_out, loop_ends}
+use borrow.Author.Rules.{rules}
+use Rattle.merge.proofs.words.put_words.Goals as goal
+
+pub loop-stored-init : goal.loop-stored-init
+loop-stored-init c = loop_start _ c.begin-fronts.ensures
+
+pub shape_of-out-then-left-eq0 : goal.shape_of-out-then-left-eq0
+shape_of-out-then-left-eq0 c = c.loop-stored.invariant.room_size
+
+pub returns-then-left-eq0 : goal.returns-then-left-eq0
+returns-then-left-eq0 c = λ every. loop_out c.loop-stored.invariant every c.loop-stored-test.true c.if-left-eq0.true
+
+pub go_on-next-requires : goal.go_on-next-requires
+go_on-next-requires c = (c.loop-stored.invariant.frame, c.loop-stored-test.true, omega (arith, c.if-left-eq0.false))
+
+pub loop-stored-smaller : goal.loop-stored-smaller
+loop-stored-smaller c = c.go_on-next.ensures.fewer
+
+pub loop-stored-preserved : goal.loop-stored-preserved
+loop-stored-preserved c = loop_on c.loop-stored.invariant c.go_on-next.auto.0 c.go_on-next.ensures
+
+pub shape_of-out : goal.shape_of-out
+shape_of-out c = c.loop-stored.invariant.room_size
+
+pub returns : goal.returns
+returns c = λ every. loop_ends c.loop-stored.invariant every c.loop-stored-test.false

@@ -1,0 +1,12 @@
+-- `put_words` meets its contract. The loop's invariant, `Looping`: the merge goes on with fewer words left than steps, or it is whole. The measure is the
+-- steps that are left.
+use native.Mathlib.Omega.{arith}
+use Rattle.merge.proofs.Stepping.{Looping, loop_start, loop_on, loop_out, loop_ends}
+use borrow.Author.Rules.{rules}
+use Rattle.merge.proofs.words.put_words.Given as goal
+
+abbrev pub invariant-loop-stored : goal.invariant-loop-stored
+invariant-loop-stored l = Looping l.keep l.text l.stops l.marks l.leaves l.ends l.order l.initial.out l.fronts l.stored l.left l.out
+
+abbrev pub decreases-loop-stored : goal.decreases-loop-stored
+decreases-loop-stored l = l.left

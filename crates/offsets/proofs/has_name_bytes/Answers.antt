@@ -1,0 +1,24 @@
+use Prim.Native.Nat.{◌-◌, ◌≤◌}
+use native.Mathlib.Omega.{arith}
+use mathlib.Core.Path.{◌≡◌, sym, ◌∙◌}
+use lib.ListN.{length, drop}
+use borrow.Author.Tests.{not-true, not-false}
+use borrow.Author.Rules.{rules}
+use Rattle.common.proofs.Members.{every_fails, every_next, every_end}
+use Rattle.offsets.specs.Names.{name_bytes}
+use Rattle.offsets.proofs.NameLaws.{byte_test}
+use Rattle.offsets.proofs.has_name_bytes.Goals as goal
+
+pub returns-then-not-is_name_byte : goal.returns-then-not-is_name_byte
+returns-then-not-is_name_byte c = every_fails byte_test c.args.name.now c.loop-i.i (omega arith)
+    (sym c.is_name_byte.ensures ∙ not-true _ c.if-not-is_name_byte.true-raw) ∙ c.loop-i.invariant.1
+
+pub loop-i-preserved : goal.loop-i-preserved
+loop-i-preserved c = (
+  omega arith,
+  every_next byte_test c.args.name.now c.loop-i.i (omega arith)
+      (sym c.is_name_byte.ensures ∙ not-false _ c.if-not-is_name_byte.false-raw) ∙ c.loop-i.invariant.1,
+)
+
+pub returns : goal.returns
+returns c = every_end byte_test c.args.name.now c.loop-i.i (omega arith) ∙ c.loop-i.invariant.1

@@ -1,0 +1,17 @@
+-- `has_name_bytes` meets its contract. The loop's invariant: the bytes still to read pass exactly when all of them do.
+use Prim.Native.Nat.{◌-◌, ◌≤◌}
+use native.Mathlib.Omega.{arith}
+use mathlib.Core.Path.{◌≡◌, sym, ◌∙◌}
+use lib.ListN.{length, drop}
+use borrow.Author.Tests.{not-true, not-false}
+use borrow.Author.Rules.{rules}
+use Rattle.common.proofs.Members.{every_fails, every_next, every_end}
+use Rattle.offsets.specs.Names.{name_bytes}
+use Rattle.offsets.proofs.NameLaws.{byte_test}
+use Rattle.offsets.proofs.has_name_bytes.Given as goal
+
+abbrev pub invariant-loop-i : goal.invariant-loop-i
+invariant-loop-i l = (l.i ≤ length l.name) × (name_bytes (drop l.i l.name) ≡ name_bytes l.name)
+
+abbrev pub decreases-loop-i : goal.decreases-loop-i
+decreases-loop-i l = length l.name - l.i

@@ -1,0 +1,16 @@
+-- `is_cut` meets its contract. The loop's invariant: from `last` on, the ends still to read pass exactly when all of them do.
+use Prim.Native.Nat.{◌-◌, ◌≤◌, ◌<◌}
+use native.Mathlib.Omega.{arith}
+use mathlib.Core.Path.{◌≡◌, ◌∙◌}
+use mathlib.Core.Bool.{false}
+use lib.ListN.{length, drop}
+use borrow.Author.Rules.{rules}
+use Rattle.offsets.specs.Cut.{ends_from}
+use Rattle.offsets.proofs.CutSteps.{falls, passes, next, none_left, cut_told}
+use Rattle.offsets.proofs.is_cut.Given as goal
+
+abbrev pub invariant-loop-i : goal.invariant-loop-i
+invariant-loop-i l = (l.i ≤ length l.ends) × (ends_from l.last (length l.s) (drop l.i l.ends) ≡ ends_from 0 (length l.s) l.ends)
+
+abbrev pub decreases-loop-i : goal.decreases-loop-i
+decreases-loop-i l = length l.ends - l.i

@@ -1,0 +1,29 @@
+-- `opening::open` meets its contract. The loop's invariant: the arrays hold the cursors of the words that were taken, and the
+-- fronts are at the words that are left.
+use Rattle.lexer.specs.Token.{Node}
+use Rattle.leaf.specs.Leaf.{Term}
+use Rattle.common.proofs.Cases.{false_not_true}
+use borrow.Author.Tests.{not-true, not-false}
+use Rattle.opening.specs.Matching.{TextIs}
+use Rattle.opening.specs.Opening.{LeavesAre, Arrays, arrays, word_size, OpenFrame}
+use Rattle.opening.proofs.Framing.{not_opened, frame_none}
+use Rattle.opening.specs.Fronts.{Able}
+use Rattle.opening.proofs.Taking.{able_as, frame_lengths, lengths_back}
+use Rattle.opening.proofs.Collecting.{OpenSoFar, going_start, going_end, going_next}
+use mathlib.Core.Path.{◌≡◌, refl, sym, ◌∙◌, subst}
+use mathlib.Core.List.{List}
+use Prim.Native.Nat.{ℕ, ◌+◌, ◌-◌, ◌*◌, ◌<◌}
+use native.Mathlib.Omega.{arith}
+use borrow.Author.Rules.{rules}
+use lib.ListN.{length}
+use Rattle.opening.proofs.open.Given as goal
+
+abbrev pub invariant-loop-fronts : goal.invariant-loop-fronts
+invariant-loop-fronts l = let given = arrays l.initial.docids l.initial.bodies l.initial.lasts l.initial.masks l.initial.follows in
+    let held = arrays l.docids l.bodies l.lasts l.masks l.follows in
+    Able l.leaves l.ends l.order l.fronts given l.n
+    × ((nodes : List Node) (columns : ℕ) (terms : List (List Term)) → TextIs l.text l.stops l.marks l.count nodes → LeavesAre columns l.leaves l.ends l.order terms → length l.leaves < word_size * (length l.initial.docids + 1) → OpenSoFar nodes columns terms l.leaves l.ends l.order l.fronts held l.n)
+    × OpenFrame l.leaves given held l.n
+
+abbrev pub decreases-loop-fronts : goal.decreases-loop-fronts
+decreases-loop-fronts l = length l.initial.docids - l.n

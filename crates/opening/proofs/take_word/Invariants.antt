@@ -1,0 +1,36 @@
+-- `opening::take_word` meets its contract. The loop's invariant: the word is taken from the first `j` fronts, and the arrays hold
+-- the cursors of its lists after those that were there.
+use Rattle.opening.proofs.Taking.{Taking, Lengths, taking_start, taking_other, taking_full, taking_this, taking_end, leaf_inside, able_more, lengths_more, sought_as, has_place}
+use borrow.Author.Tests.{not-true, not-false}
+use Rattle.lexer.specs.Token.{Node}
+use Rattle.leaf.specs.Leaf.{Term}
+use Rattle.cursors.specs.Arrays.{Cursor}
+use Rattle.opening.specs.Matching.{TextIs}
+use Rattle.opening.specs.Fronts.{front_word, front_at, head_lists, FrontsAre, Able, HoldAll}
+use Rattle.opening.specs.Opening.{Arrays, arrays, OpenFrame}
+use Rattle.opening.proofs.Framing.{has_mask, placed_within, frame_more}
+use mathlib.Core.Path.{◌≡◌, refl, sym, ◌∙◌}
+use mathlib.Core.List.{List}
+use Prim.Native.Nat.{ℕ, ◌+◌, ◌-◌, ◌≤◌}
+use native.Mathlib.Omega.{arith}
+use borrow.Author.Rules.{rules}
+use lib.ListN.{length, get_or, length-set}
+use Rattle.opening.proofs.take_word.Given as goal
+
+abbrev pub invariant-loop-j : goal.invariant-loop-j
+invariant-loop-j l = let given = arrays l.initial.docids l.initial.bodies l.initial.lasts l.initial.masks l.initial.follows in
+    let held = arrays l.docids l.bodies l.lasts l.masks l.follows in
+    Able l.leaves l.ends l.order l.fronts given l.n
+    × (l.from ≤ l.n)
+    × (l.j ≤ length l.order)
+    × (length l.fronts ≡ 8)
+    × (l.front.size ≤ 64)
+    × Lengths given held
+    × ((nodes : List Node) (columns : ℕ) (left : List (List Term)) (cs : List Cursor) → TextIs l.text l.stops l.marks l.count nodes → FrontsAre nodes columns l.leaves l.ends l.order l.initial.fronts left
+    → HoldAll l.leaves given l.from cs → l.from + length (head_lists (front_word l.front) left) ≤ length l.initial.docids
+    → Taking nodes columns (front_word l.front) l.leaves l.ends l.order left cs held l.fronts l.n l.follow l.j)
+    × (l.follow ≤ 1)
+    × ((first : Arrays) → length first.docids ≡ length l.initial.docids → OpenFrame l.leaves first given l.from → OpenFrame l.leaves first held l.n)
+
+abbrev pub decreases-loop-j : goal.decreases-loop-j
+decreases-loop-j l = length l.order - l.j

@@ -1,0 +1,20 @@
+use Prim.Native.Nat.{◌+◌, ◌-◌, ◌≤◌}
+use native.Mathlib.Omega.{arith}
+use mathlib.Core.Path.{◌≡◌, refl, sym, ◌∙◌}
+use borrow.Author.Rules.{rules}
+use Rattle.common.specs.Bytes.{part, span}
+use Rattle.cursors.specs.Arrays.{is_open}
+use Rattle.postings.proofs.Closing.{open_more, open_stop, open_end}
+use Rattle.postings.proofs.close_at.Goals as goal
+
+pub loop-i-init : goal.loop-i-init
+loop-i-init c = (omega arith, omega arith, refl)
+
+pub returns-then-leaves-i-eq0 : goal.returns-then-leaves-i-eq0
+returns-then-leaves-i-eq0 c = let l = c.loop-i in sym (l.invariant.2 ∙ open_stop c.args.leaves.now l.i c.args.to c.loop-i-test.true (omega arith) c.if-leaves-i-eq0.true)
+
+pub loop-i-preserved : goal.loop-i-preserved
+loop-i-preserved c = let l = c.loop-i in (omega arith, omega arith, l.invariant.2 ∙ open_more c.args.leaves.now l.i c.args.to c.loop-i-test.true (omega arith) c.if-leaves-i-eq0.false)
+
+pub returns : goal.returns
+returns c = let l = c.loop-i in sym (l.invariant.2 ∙ open_end c.args.leaves.now l.i c.args.to c.loop-i-test.false)

@@ -1,0 +1,6 @@
+-- `is_dropped` meets its contract.
+use borrow.Author.Rules.{rules}
+use Rattle.postings.proofs.is_dropped.Goals as goal
+
+pub returns : goal.returns
+returns c = simp c.if-keep.false

@@ -1,0 +1,24 @@
+use Prim.Native.Nat.{◌-◌}
+use native.Mathlib.Omega.{arith}
+use mathlib.Core.Path.{◌≡◌, sym, ap, ◌∙◌}
+use lib.ListN.{length, get_or, take, set}
+use lib.Seq.{take_all}
+use Rattle.common.specs.Bytes.{over}
+use Rattle.common.proofs.Rooms.{over_take, fitted_over, fitted_kept}
+use borrow.Author.Rules.{rules}
+use Rattle.storing.proofs.put_bytes.Goals as goal
+
+pub returns-then-out-bytes : goal.returns-then-out-bytes
+returns-then-out-bytes c = sym (fitted_kept c.args.bytes.now c.args.out.now c.if-out-bytes.true)
+
+pub loop-i-preserved : goal.loop-i-preserved
+loop-i-preserved c = let l = c.loop-i in
+    let a = c.args in
+    (search rules, ap (λ t. set t l.i (get_or a.bytes.now l.i 0)) l.invariant.1 ∙ over_take a.bytes.now a.out.now l.i (omega arith) (omega arith))
+
+pub returns : goal.returns
+returns c = let l = c.loop-i in
+    let a = c.args in
+    l.invariant.1
+    ∙ ap (λ t. over t a.out.now) (take_all l.i a.bytes.now c.loop-i-test.false)
+    ∙ sym (fitted_over a.bytes.now a.out.now c.if-out-bytes.false)

@@ -1,0 +1,14 @@
+-- `write` meets its contract: each answer is the case of `written_of` that its test leaves.
+use native.Mathlib.Omega.{arith}
+use borrow.Author.Rules.{rules}
+use Rattle.varint.proofs.Writing.{no_room, written}
+use Rattle.varint.proofs.write.Goals as goal
+
+pub returns-then-room-n : goal.returns-then-room-n
+returns-then-room-n c = let a = c.args in
+    no_room a.v a.room.now c.size-n.result c.size-n.ensures (omega arith)
+
+pub returns : goal.returns
+returns c = let a = c.args in
+    let n = c.size-n in
+    written a.v a.room.now n.result n.ensures (omega arith) _ c.put.ensures

@@ -1,0 +1,61 @@
+use Prim.Native.Nat.{◌+◌, ◌-◌, ◌≤◌}
+use native.Mathlib.Omega.{arith}
+use mathlib.Core.Path.{sym, ap, ◌∙◌, subst}
+use mathlib.Core.Bool.{true}
+use lib.IntN.{pos}
+use lib.ListN.{length, get_or}
+use borrow.Author.Rules.{rules}
+use Rattle.common.specs.Bytes.{within}
+use Rattle.common.proofs.Cases.{false_refutes}
+use Rattle.verdict.specs.Counting.{SharedIs}
+use Rattle.verdict.proofs.Runs.{within_exactly}
+use Rattle.verdict.proofs.Shown.{key_read}
+use Rattle.verdict.proofs.Sharing.{Ahead, left_ended, right_ended, right_on, left_on, shared_here}
+use Rattle.verdict.proofs.least_shared.Goals as goal
+
+pub loop-i-init : goal.loop-i-init
+loop-i-init c = (omega arith, omega arith, λ ds es s t d w m n. (m, n))
+
+pub returns-then-b-j : goal.returns-then-b-j
+returns-then-b-j c = let l = c.loop-i in
+    let a = c.args in
+    right_ended a.first a.last a.a.now a.b.now l.i l.j l.invariant.2 0 c.if-b-j.true
+
+pub loop-i-preserved-then-other-key : goal.loop-i-preserved-then-other-key
+loop-i-preserved-then-other-key c = let l = c.loop-i in
+    let a = c.args in
+    let x = key_read (get_or a.a.now l.i (pos 0)) (record { sfits = c.key_of-arg-1.given }) _ c.key_of-key.ensures in
+    let y = key_read (get_or a.b.now l.j (pos 0)) (record { sfits = c.key_of-arg-in-loop-i-1.given }) _ c.key_of-other.ensures in
+    let t = c.if-other-key.true in (
+      l.invariant.0,
+      omega (arith, c.if-b-j.false),
+      right_on a.first a.last a.a.now a.b.now l.i l.j l.invariant.2 c.loop-i-test.true c.if-b-j.false (omega arith),
+    )
+
+pub returns-then-is_hit : goal.returns-then-is_hit
+returns-then-is_hit c = let l = c.loop-i in
+    let a = c.args in
+    let x = key_read (get_or a.a.now l.i (pos 0)) (record { sfits = c.key_of-arg-1.given }) _ c.key_of-key.ensures in
+    let y = key_read (get_or a.b.now l.j (pos 0)) (record { sfits = c.key_of-arg-in-loop-i-1.given }) _ c.key_of-other.ensures in
+    let h = c.is_hit.ensures.0 c.if-is_hit.true in
+    λ ds es s t.
+    subst (λ k. SharedIs a.first a.last ds es (record { found = true; key = k })) (sym x)
+    (shared_here a.first a.last a.a.now a.b.now l.i l.j l.invariant.2 c.loop-i-test.true c.if-b-j.false (sym x ∙ h.0 ∙ y)
+    ((within_exactly a.first a.last _).0 (ap (within a.first a.last) (sym x) ∙ h.1)) ds es s t)
+
+pub loop-i-preserved : goal.loop-i-preserved
+loop-i-preserved c = let l = c.loop-i in
+    let a = c.args in
+    let x = key_read (get_or a.a.now l.i (pos 0)) (record { sfits = c.key_of-arg-1.given }) _ c.key_of-key.ensures in
+    let y = key_read (get_or a.b.now l.j (pos 0)) (record { sfits = c.key_of-arg-in-loop-i-1.given }) _ c.key_of-other.ensures in
+    let t = c.if-other-key.false in (
+      omega (arith, c.loop-i-test.true),
+      l.invariant.1,
+      left_on a.first a.last a.a.now a.b.now l.i l.j l.invariant.2 c.loop-i-test.true c.if-b-j.false (omega arith)
+          (λ e w. false_refutes c.is_hit.ensures c.if-is_hit.false (x ∙ e ∙ sym y, ap (within a.first a.last) x ∙ (within_exactly a.first a.last _).1 w)),
+    )
+
+pub returns : goal.returns
+returns c = let l = c.loop-i in
+    let a = c.args in
+    left_ended a.first a.last a.a.now a.b.now l.i l.j l.invariant.2 0 c.loop-i-test.false

@@ -1,0 +1,18 @@
+-- `place` meets its contract. The loop's invariant: the run of rows that are passed goes on from `i`. The measure is what
+-- is left of the rows.
+use Prim.Native.Nat.{◌-◌}
+use native.Mathlib.Omega.{arith}
+use mathlib.Core.Path.{◌≡◌, sym, ◌∙◌}
+use lib.ListN.{length, get_or}
+use Rattle.common.specs.Bytes.{span}
+use Rattle.common.proofs.Runs.{past, past_end, past_stop, past_more}
+use Rattle.writer.specs.Rows.{not_before}
+use Rattle.writer.proofs.Inserting.{place_found, place_passed}
+use borrow.Author.Rules.{rules}
+use Rattle.writer.proofs.rows.place.Given as goal
+
+abbrev pub invariant-loop-i : goal.invariant-loop-i
+invariant-loop-i l = past (not_before l.folded l.w) l.rows l.i ≡ span (not_before l.folded l.w) l.rows
+
+abbrev pub decreases-loop-i : goal.decreases-loop-i
+decreases-loop-i l = length l.rows - l.i

@@ -1,0 +1,22 @@
+-- `put_list` meets its contract. The loop's invariant: what is written, with the bytes of the rows that are left, is the
+-- list. The measure is what is left of the rows.
+use Prim.Native.Nat.{ℕ, ◌+◌, ◌-◌, ◌≤◌}
+use native.Mathlib.Omega.{arith}
+use mathlib.Core.Path.{◌≡◌, refl, sym, ap, ◌∙◌}
+use mathlib.Core.List.{List, ◌++◌, append_assoc}
+use lib.ListN.{length, get_or, take, drop, length-append}
+use Rattle.common.specs.Bytes.{over, fitted}
+use Rattle.common.proofs.Rooms.{Wrote, wrote_first, wrote_length, wrote_within, wrote_free, wrote_more, wrote_again, wrote_under, fitted_more}
+use Rattle.varint.specs.Varint.{encode}
+use Rattle.doclist.specs.Docid.{bits_of}
+use Rattle.doclist.specs.Doclist.{encode_all}
+use Rattle.writer.specs.Stored.{row_numbers, numbers_from, list_bytes, Rises}
+use Rattle.writer.proofs.Lists.{rises_end, rises_here, rises_next, numbers_next, numbers_next_length}
+use borrow.Author.Rules.{rules}
+use Rattle.writer.proofs.terms.put_list.Given as goal
+
+abbrev pub invariant-loop-i : goal.invariant-loop-i
+invariant-loop-i l = (w : List ℕ) × Wrote l.initial.out l.out w l.at × Rises l.last (drop l.i l.rows) × (w ++ encode_all (numbers_from l.last (drop l.i l.rows)) ≡ list_bytes l.docid l.rows) × (length (encode (bits_of l.docid)) ≤ length w)
+
+abbrev pub decreases-loop-i : goal.decreases-loop-i
+decreases-loop-i l = length l.rows - l.i

@@ -1,0 +1,17 @@
+-- `terms_size` meets its contract. The loop's invariant: what the runs passed take, and what the others take, make up the
+-- whole. The measure is what is left of the rows.
+use Prim.Native.Nat.{ℕ, ◌+◌, ◌-◌, ◌≤◌, ◌<◌}
+use native.Mathlib.Omega.{arith}
+use mathlib.Core.Path.{◌≡◌, refl, ap, ◌∙◌}
+use lib.ListN.{length, get_or, take, drop, length-append}
+use Rattle.writer.specs.Rows.{row_word}
+use Rattle.writer.specs.Stored.{term_of, terms_from, terms_of}
+use Rattle.writer.proofs.TermLaws.{terms_most, AtRun, runs_start, runs_end, run_inside, run_within, run_rows, runs_next, runs_term}
+use borrow.Author.Rules.{rules}
+use Rattle.writer.proofs.terms.terms_size.Given as goal
+
+abbrev pub invariant-loop-i : goal.invariant-loop-i
+invariant-loop-i l = (most : ℕ) × AtRun l.folded l.rows l.last l.i most × (l.total + length (terms_from most l.folded l.docid l.last (drop l.i l.rows)) ≡ length (terms_of l.folded l.docid l.rows))
+
+abbrev pub decreases-loop-i : goal.decreases-loop-i
+decreases-loop-i l = length l.rows - l.i
