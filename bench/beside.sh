@@ -24,7 +24,7 @@ fi
 work=$(mktemp -d)
 trap 'rm -rf "$work"' EXIT
 
-[ -n "$built" ] || rt staticlib fts4box > "$work/log"
+[ -n "$built" ] || bash tools/build.sh fts4box
 libraries=()
 for archive in target/staticlib/libfts4box.a "$1"; do
     cc -shared -o "$work/${#libraries[@]}.so" -Wl,--whole-archive "$archive" -Wl,--no-whole-archive

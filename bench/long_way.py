@@ -3,28 +3,15 @@
 
     python3 bench/long_way.py FOLDER
 
-Only the body of `read` and its proof change: its contract and all that stands on it stay, and the prover says so when the copy is built.
+Only the body of `read` changes: its contract and all that stands on it stay, and the prover says so when the copy is built. The copy has no
+answers for `read`: what `read_long` promises is what it has to.
 """
 import os
+import re
 import shutil
 import sys
 
 MEASURED = ("fts4box", "timing")
-
-PROOF = """-- `read` meets its contract: it is `read_long`.
-use borrow.Author.Needs.{needs}
-use Rattle·varint·proofs.proofs.read.Statement.{statement}
-use Rattle·varint·proofs.proofs.read.Tie as tie
-
-read-long-requires : tie.Need-read-long-requires
-read-long-requires c κs = search needs
-
-returns : tie.Need-returns
-returns c = search needs
-
-pub read-spec : {M : Type 1} → statement M
-read-spec = tie.close (tie.spec read-long-requires returns)
-"""
 
 
 def long_only(code):
@@ -43,7 +30,8 @@ def needed(lines):
     wanted, kept = set(MEASURED), []
     for line in reversed(lines):
         crate, _, below = line.partition(":")
-        if crate in wanted:
+        # a static library has that word after its name
+        if crate.split(" ")[0] in wanted:
             wanted.update(below.split())
             kept.insert(0, line)
     if len(kept) != len(wanted):
@@ -55,8 +43,8 @@ def main(folder):
     with open("crates.txt") as f:
         listed = needed(f.readlines())
     for line in listed:
-        crate = line.split(":")[0]
-        shutil.copytree(os.path.join("crates", crate), os.path.join(folder, "crates", crate))
+        crate = re.match(r"\w+", line)[0]
+        shutil.copytree(os.path.join("crates", crate), os.path.join(folder, "crates", crate), ignore=shutil.ignore_patterns("out"))
     with open(os.path.join(folder, "crates.txt"), "w") as f:
         f.writelines(listed)
     path = os.path.join(folder, "crates/varint/src/lib.rt")
@@ -64,8 +52,7 @@ def main(folder):
         code = f.read()
     with open(path, "w") as f:
         f.write(long_only(code))
-    with open(os.path.join(folder, "crates/varint/proofs/read/Proof.antt"), "w") as f:
-        f.write(PROOF)
+    shutil.rmtree(os.path.join(folder, "crates/varint/proofs/read"), ignore_errors=True)
 
 
 if __name__ == "__main__":

@@ -24,7 +24,7 @@ fi
 if [ "${1:-}" = --built ]; then
     machine="a library built before"
 else
-    rt staticlib fts4box > "$work/log" 2>&1 || { cat "$work/log" >&2; exit 2; }
+    bash tools/build.sh fts4box
     machine=$(rt version)
 fi
 python3 bench/make_index.py "$work" > "$work/index.log"

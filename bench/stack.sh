@@ -13,7 +13,7 @@ esac
 work=$(mktemp -d)
 trap 'rm -rf "$work"' EXIT
 
-[ "${1:-}" = --built ] || rt staticlib fts4box > "$work/log"
+[ "${1:-}" = --built ] || bash tools/build.sh fts4box
 # symbols are bound at the start, so that the first call of memcpy does not count
 cc -O1 -Wall -Wextra -Werror -pthread -Wl,-z,now -I include -o "$work/stack" bench/stack.c target/staticlib/libfts4box.a
 "$work/stack" fts4_search 262144 fts4_merge 16384 fts4_merge_keeping 16384

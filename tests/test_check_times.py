@@ -12,24 +12,56 @@ from paths import TOOLS
 from tally import Tally
 
 TOOL = os.path.join(TOOLS, "check_times.py")
-LOG = """rt: leaf proved (30 s)
-rt: row proved (9 s)
-rt: must-fail leaf/height_free: refused, as it must be (first at proofs/check/Proof.antt:1:1; 20 s)
-processor: leaf 28.4 s
+LOG = """rt: leaf proved
+rt: leaf: its tests are proved
+rt: leaf: trying its must-fail edits (2)
+rt: row proved
+rt: must-fail leaf/height_free.edit: refused, as it must be: ./proofs/check/Answers.antt:1:1: error: a type differs
+rt: must-fail leaf/no_words.edit: refused, as it must be
+rt: leaf: its tests passed
+rt: ok; handles allowed: none; must-fail edits: 2 refused; every proof and must-fail edit was done in this run
+4 passed, 0 failed
+processor: leaf 20.4 s
+processor: leaf 8.0 s
 processor: row 8.6 s
-processor: leaf/height_free 20.1 s
+processor: leaf/must-fail 12.1 s
+processor: leaf/must-fail 8.0 s
 gate: 600 s
-130 passed, 0 failed
+4 passed, 0 failed
 """
 TABLE = """| | processor seconds |
 |---|---|
 | `leaf` | 28 s |
 | `row` | 9 s |
 | all crates | 37 s |
-| must-fail edits | 1 |
-| all must-fail edits | 20 s |
+| must-fail edits tried | 2 of 2 |
+| all these edits | 20 s |
 | the gate, by the clock | 10 min |
 """
+# The same crates and edits, all but `row` and one edit as an earlier run left them.
+KEPT = """rt: leaf is kept: an earlier run on this machine proved the same files over the same libraries
+rt: opening proved
+rt: leaf: 1 of its 2 must-fail edits were tried by an earlier run on this machine, and nothing that they stand on has changed
+rt: must-fail leaf/height_free.edit: refused, as it must be
+rt: must-fail leaf/no_words.edit: refused, as it must be
+rt: ok; handles allowed: none; must-fail edits: 2 refused; done in this run: 1 of the 2 proofs (of crates and of their tests) and 1 of the 2 must-fail edits; the others are kept from earlier runs of the same files on this machine
+processor: opening 9.0 s
+processor: leaf/must-fail 4.0 s
+gate: 300 s
+4 passed, 0 failed
+"""
+BOTH = """| | before | after |
+|---|---|---|
+| `leaf` | 28 s | kept |
+| `opening` | - | 9 s |
+| `row` | 9 s | - |
+| all crates | 37 s | 9 s (1 kept) |
+| must-fail edits tried | 2 of 2 | 1 of 2 |
+| all these edits | 20 s | 4 s |
+| the gate, by the clock | 10 min | 5 min |
+"""
+FAILED = LOG.replace("4 passed, 0 failed", "3 passed, 1 failed")
+BAD = LOG.replace("leaf/no_words.edit: refused, as it must be", "leaf/no_words.edit: BAD EDIT: it changes nothing").replace("4 passed", "3 passed")
 
 
 def asked(*words):
@@ -51,14 +83,11 @@ def logs(tally, folder):
 
     whole = kept("whole", LOG)
     tally.check("the table of a log", asked(whole), (0, TABLE, ""))
-    later = kept("later", LOG.replace("row", "opening").replace("28.4", "31.0"))
-    status, table, _ = asked(whole, later)
-    tally.check("the status of two logs", status, 0)
-    for line in ("| `leaf` | 28 s | 31 s |", "| `row` | 9 s | - |", "| `opening` | - | 9 s |", "| must-fail edits | 1 | 1 |"):
-        tally.check("the table of two logs has " + line, line in table.splitlines(), True)
+    tally.check("the table of two logs", asked(whole, kept("later", KEPT)), (0, BOTH, ""))
     for what, text in (
-        ("an empty log", ""), ("no crate's time", without(LOG, "processor: row")), ("no edit's time", without(LOG, "processor: leaf/")),
-        ("no end", without(LOG, "gate:")), ("no proof", without(LOG, "rt: ")),
+        ("an empty log", ""), ("no crate's time", without(LOG, "processor: row")), ("no edits' time", without(LOG, "processor: leaf/")),
+        ("no end", without(LOG, "gate:")), ("no verdict", without(LOG, "4 passed")), ("a failure", FAILED), ("a bad edit", BAD), ("no proof", without(LOG, "rt: ")),
+        ("a crate's line is lost", without(LOG, "rt: row")), ("an edit's line is lost", without(LOG, "rt: must-fail leaf/no_words")), ("a kept crate's line is lost", without(KEPT, "rt: leaf is")),
     ):
         status, table, complaint = asked(kept("broken", text))
         tally.check(what, (status, table, complaint != ""), (1, "", True))
@@ -66,21 +95,35 @@ def logs(tally, folder):
     tally.check("no words", asked()[:2], (2, ""))
 
 
+BUSY = "import time\nend = time.process_time() + 0.4\nwhile time.process_time() < end: pass\n"
+# a run of the prover that shares its work with a copy of itself
+SHARED = BUSY + "import os\npid = os.fork()\n" + BUSY + "if pid: os.waitpid(pid, 0)\n"
+# an rt that tries an edit, in a folder that it names after itself
+TRYING = """
+import os, subprocess, sys
+place = os.path.join(sys.argv[1], "rt-edit-%d-x" % os.getpid())
+os.mkdir(place)
+subprocess.run(["rattle", "-c", sys.argv[2], "check", "--crate-name", "row", "src/lib.rt"], executable=sys.executable, cwd=place, check=True)
+"""
+
+
 def watching(tally, folder):
-    """Processes that look like the prover's: two below the folder, one elsewhere."""
-    busy = "import time\nend = time.process_time() + 0.5\nwhile time.process_time() < end: pass"
-    watcher = subprocess.Popen([sys.executable, TOOL, "--watch", folder], stdout=subprocess.PIPE, text=True)
-    roots = ("crates/leaf/src/lib.rt", "target/must-fail/leaf/height_free/src/lib.rt", "../crates/row/src/lib.rt")
-    for root in roots:
-        name = os.path.normpath(os.path.join(folder, root))
-        subprocess.run(["rattle", "-c", busy, "check", "--crate-name", "leaf", name], executable=sys.executable, check=True)
+    """Processes that look like the prover's: on a crate, and in a try of an edit; both for another folder too."""
+    here, other = os.path.join(folder, "here"), os.path.join(folder, "other")
+    for place in (here, other):
+        os.makedirs(os.path.join(place, "crates", "leaf"))
+    watcher = subprocess.Popen([sys.executable, TOOL, "--watch", here], stdout=subprocess.PIPE, text=True)
+    for place in (here, other):
+        leaf = os.path.join(place, "crates", "leaf")
+        subprocess.run(["rattle", "-c", SHARED, "build", "--crate-name", "leaf", "src/lib.rt"], executable=sys.executable, cwd=leaf, check=True)
+        subprocess.run([sys.executable, "-c", TRYING, folder, BUSY], cwd=place, check=True)
     time.sleep(0.5)
     watcher.send_signal(signal.SIGTERM)
     lines = watcher.communicate()[0].splitlines()
     tally.check("the watcher's status", watcher.returncode, 0)
-    tally.check("what is measured", [line.split()[1] for line in lines], ["leaf", "leaf/height_free"])
-    for line in lines:
-        tally.check("the time of " + line, 0.3 <= float(re.search(r"([\d.]+) s$", line)[1]) <= 1.5, True)
+    tally.check("what is measured", [line.split()[1] for line in lines], ["leaf", "row/must-fail"])
+    for line, least, most in zip(lines, (0.9, 0.3), (1.8, 0.8)):
+        tally.check("the time of " + line, least <= float(re.search(r"([\d.]+) s$", line)[1]) <= most, True)
 
 
 def main():

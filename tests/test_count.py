@@ -98,7 +98,7 @@ def failed(tally, path, folder):
     with tempfile.TemporaryDirectory() as copy:
         shutil.copytree(paths.TOOLS, os.path.join(copy, "tools"), ignore=shutil.ignore_patterns("__pycache__"))
         done = subprocess.run([sys.executable, os.path.join(copy, "tools", "count.py"), path, "probes", "reply"], stdout=subprocess.PIPE, stderr=subprocess.PIPE, text=True)
-        tally.check("no library: %s" % done.stderr, (done.returncode, done.stdout, "rt staticlib fts4box" in done.stderr), (FAILED, "", True))
+        tally.check("no library: %s" % done.stderr, (done.returncode, done.stdout, "bash tools/build.sh" in done.stderr), (FAILED, "", True))
         tally.check("no compiler", ran(path, "probes", "reply", env={**os.environ, "PATH": copy})[0], FAILED)
 
 
@@ -225,7 +225,7 @@ def other_version(tally):
                 fts4box.load(archive)
                 tally.fail("a library of version %s is taken" % version)
             except fts4box.NoLibrary as error:
-                parts = archive, "another version", "rt staticlib fts4box"
+                parts = archive, "another version", "bash tools/build.sh"
                 tally.check("what is said of version %s: %s" % (version, error), [part for part in parts if part not in str(error)], [])
 
 

@@ -280,7 +280,7 @@ def failures(tally):
         shutil.rmtree(place.out)
         with tempfile.TemporaryDirectory() as copy:
             shutil.copytree(paths.TOOLS, os.path.join(copy, "tools"), ignore=shutil.ignore_patterns("__pycache__"))
-            place.refused("no library", FAILED, ["rt staticlib fts4box"], run=lambda *words: ran(*words, tool=os.path.join(copy, "tools", "merge.py")))
+            place.refused("no library", FAILED, ["bash tools/build.sh"], run=lambda *words: ran(*words, tool=os.path.join(copy, "tools", "merge.py")))
             place.refused("no compiler", FAILED, ["failed: "], run=lambda *words: ran(*words, env={**os.environ, "PATH": copy}))
         failing_writes(tally, place)
         wrong_leaves(tally, place)

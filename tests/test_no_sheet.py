@@ -292,8 +292,8 @@ def without_library(tally, place):
     before, copy = a_sheet(tally, path, html), os.path.join(place, "copy")
     shutil.copytree(paths.TOOLS, os.path.join(copy, "tools"), ignore=shutil.ignore_patterns("__pycache__"))
     done = subprocess.run([sys.executable, os.path.join(copy, "tools", "verdict.py"), *given], stdout=subprocess.PIPE, stderr=subprocess.PIPE, text=True)
-    tally.check("no library: %s" % done.stderr, (done.returncode, done.stdout, "rt staticlib fts4box" in done.stderr), (FAILED, "", True))
-    no_sheet(tally, "no library", html, before, "NO SHEET", "rt staticlib fts4box")
+    tally.check("no library: %s" % done.stderr, (done.returncode, done.stdout, "bash tools/build.sh" in done.stderr), (FAILED, "", True))
+    no_sheet(tally, "no library", html, before, "NO SHEET", "bash tools/build.sh")
     tally.check("no compiler", ran(*given, env={**os.environ, "PATH": copy})[0], FAILED)
 
 

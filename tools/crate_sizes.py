@@ -1,15 +1,17 @@
 #!/usr/bin/env python3
-"""What each crate holds: lines of code, definitions, laws, proofs of functions and must-fail edits, as a table.
+"""What each crate holds: lines of code, definitions, laws, functions with something written of their proof, and must-fail edits, as a table.
 
 Lines of code are those of src/ that are neither empty nor a comment nor a contract. A definition is a name that a file of specs/
-gives, a law one that a file of proofs/ states; fields are not counted. The proof of a function is a file Proof.antt.
+gives, a law one that a file of proofs/ itself states; fields are not counted. What is written of a function's proof, its invariants and
+answers, stands in a folder of proofs/; where there is none the prover needs nothing.
 """
 import os
 import re
 import sys
 
 ROOT = os.path.dirname(os.path.dirname(os.path.abspath(__file__)))
-CONTRACT = re.compile(r"\s*(//|requires |ensures |ghost use )")
+CONTRACT = re.compile(r"\s*(//|requires |ensures |ghost use |#!?\[tactic\()")
+CRATE = re.compile(r"(\w+)( staticlib)? *:")
 SECTION = re.compile(r"( *)module _ ")
 STATED = re.compile(r"( *)(?:abbrev |unfoldable |pub )*(record |data )?[^\s:({-][^\s:({]*(?: [({].*[)}])? :(?: |$)")
 
@@ -41,22 +43,23 @@ def stated(path):
 
 def sizes(crate):
     folder = os.path.join(ROOT, "crates", crate)
-    proofs = list(files(os.path.join(folder, "proofs"), ".antt"))
+    proofs = os.path.join(folder, "proofs")
+    laws = [path for path in files(proofs, ".antt") if os.path.dirname(path) == proofs]
     return [
         sum(1 for path in files(os.path.join(folder, "src"), ".rt") for line in lines(path) if line.strip() and not CONTRACT.match(line)),
         sum(stated(path) for path in files(os.path.join(folder, "specs"), ".antt")),
-        sum(stated(path) for path in proofs if os.path.basename(path) != "Proof.antt"),
-        sum(1 for path in proofs if os.path.basename(path) == "Proof.antt"),
+        sum(stated(path) for path in laws),
+        len({os.path.dirname(path) for path in files(proofs, ".antt")} - {proofs}),
         sum(1 for _ in files(os.path.join(folder, "must-fail"), ".edit")),
     ]
 
 
 def main():
     with open(os.path.join(ROOT, "crates.txt"), encoding="utf-8") as file:
-        crates = [line.split(":")[0] for line in file if re.match(r"\w+:", line)]
+        crates = [match[1] for match in map(CRATE.match, file) if match]
     table = [(f"`{crate}`", sizes(crate)) for crate in crates]
     table.append(("all", [sum(column) for column in zip(*(row for _, row in table))]))
-    print("| | lines of code | definitions | laws | function proofs | must-fail edits |")
+    print("| | lines of code | definitions | laws | functions answered | must-fail edits |")
     print("|---|---|---|---|---|---|")
     for name, row in table:
         print(f"| {name} | " + " | ".join(map(str, row)) + " |")

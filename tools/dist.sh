@@ -26,7 +26,7 @@ part=
 trap 'rm -rf "$work" "$part"' EXIT
 
 library=target/staticlib/libfts4box.a
-[ "$built" = yes ] || rt staticlib fts4box > "$work/log" 2>&1 || { cat "$work/log" >&2; exit 1; }
+[ "$built" = yes ] || bash tools/build.sh fts4box
 [ -f "$library" ] || { echo "there is no $library: run without --built" >&2; exit 1; }
 version=$(sed -n 's/^#define FTS4BOX_VERSION "\([0-9.]*\)"$/\1/p' include/fts4box.h)
 [ -n "$version" ] || { echo "include/fts4box.h has no version" >&2; exit 1; }

@@ -39,14 +39,14 @@ class NoLibrary(Exception):
 
 def made_shared(archive, shared):
     if not os.path.exists(archive):
-        raise NoLibrary("%s is missing: build it with `rt staticlib fts4box` (or `bash demo`)" % archive)
+        raise NoLibrary("%s is missing: build it with `bash tools/build.sh` (or `bash demo`)" % archive)
     command = ["cc", "-shared", "-o", shared, "-Wl,--whole-archive", archive, "-Wl,--no-whole-archive"]
     try:
         done = subprocess.run(command, stdout=subprocess.PIPE, stderr=subprocess.STDOUT, text=True)
     except OSError as error:
         raise NoLibrary("a C compiler, `cc`, is needed to link the library: %s" % error)
     if done.returncode != 0:
-        raise NoLibrary("%s can't be linked: build it anew with `rt staticlib fts4box`\n%s" % (archive, done.stdout))
+        raise NoLibrary("%s can't be linked: build it anew with `bash tools/build.sh`\n%s" % (archive, done.stdout))
 
 
 def load(archive=ARCHIVE):
@@ -57,7 +57,7 @@ def load(archive=ARCHIVE):
         library = ctypes.CDLL(shared)
     # arguments go by position and an archive has no version: one before 1.8 is told by the call that it lacks
     if any(not hasattr(library, name) for name in CALLS):
-        raise NoLibrary("%s is of another version than these tools: build it anew with `rt staticlib fts4box`" % archive)
+        raise NoLibrary("%s is of another version than these tools: build it anew with `bash tools/build.sh`" % archive)
     for name, arguments in CALLS.items():
         call = getattr(library, name)
         call.argtypes, call.restype = arguments, U32
