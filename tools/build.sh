@@ -30,7 +30,8 @@ made_by_rt() {
         (cd "crates/$name" && rt run < "$input") > "$log" 2>&1
     else
         rm -f "$made"
-        (cd "crates/$name" && rt lib) > "$log" 2>&1
+        # for every x86-64, as docs/REFERENCE.md promises: the default asks for more of the processor, and a library does not test that
+        (cd "crates/$name" && rt lib --cpu x86-64) > "$log" 2>&1
     fi && [ -f "$made" ]
 }
 
@@ -39,7 +40,7 @@ for name in "$@"; do
     [ ! -f "crates/$name/src/main.rt" ] || { made=crates/$name/out/$name to=target/bin/$name mode=755; }
     if ! made_by_rt "$name" "$made"; then
         cat "$log" >&2
-        echo "tools/build.sh: crate $name was not built, and $to is as it was; what rt said stands above" >&2
+        echo "tools/build.sh: crate $name gave no $made, and $to is as it was; what rt said, if anything, stands above" >&2
         exit 1
     fi
     mkdir -p "$(dirname "$to")"
