@@ -12,6 +12,7 @@ use Rattle.chain.specs.Keys.{Ordered}
 use Rattle.chain.proofs.Marking.{Marking, Holding, marking_first, marking_done, marking_full, marking_put}
 use borrow.Author.Rules.{rules}
 use Rattle.chain.proofs.mark.Goals as goal
+use Rattle.chain.proofs.mark.Goals.{then-some, else-some}
 
 pub loop-found-init : goal.loop-found-init
 loop-found-init c = let a = c.args in (
@@ -49,6 +50,6 @@ loop-found-preserved c = let a = c.args in
           marking_put a.leaves.now a.starts.now a.masks.now a.i hits a.columns a.tie a.keys.now a.count a.fresh a.marks.now l.marks c.put_mark.new.marks l.some c.was_marked-old.result c.is_reached-reached.result c.if-some.some l.j l.found c.advance-found.result _ (l.invariant.2 hits row room ordered) c.in-At.is
           (walk_small a.leaves.now a.starts.now a.masks.now a.i l.found _ c.in-At.is l.invariant.0)
           c.was_marked-old.ensures (c.is_reached-reached.ensures ordered) (omega (arith, l.invariant.1)) c.if-j-ge-MAX_CANDIDATES.false c.put_mark.ensures
-          (⊎_elim (λ w. inl (w.0.taken, w.1 ∙ w.0.taken)) (λ w. inr (w.0.left, w.1)) c.if-some.branch-raw)
+          (elim c.if-some.branch [ then-some w ↦ inl (w.if-some.true, w.some-is ∙ w.if-some.true) | else-some w ↦ inr (w.if-some.false, w.some-is) ])
           c.advance-found.ensures.finds,
     )

@@ -1,7 +1,6 @@
 use Prim.Native.Nat.{ℕ, ◌+◌, ◌-◌, ◌≤◌, ◌<◌}
 use native.Mathlib.Omega.{arith}
 use mathlib.Core.Bool.{false}
-use mathlib.Core.Logic.{⊎_elim}
 use mathlib.Core.Path.{◌≡◌, refl, sym, ap, ◌∙◌, subst}
 use mathlib.Core.List.{List}
 use lib.ListN.{length, get_or, drop, length-take, length-drop}
@@ -16,6 +15,7 @@ use Rattle.chain.proofs.Keys.{ordered_none}
 use Rattle.chain.proofs.Stepping.{keys_of, source_same, Stepping, stepping_first, stepping_flush, stepping_same, stepping_done, stepping_full, stepping_push}
 use borrow.Author.Rules.{rules}
 use Rattle.chain.proofs.step.Goals as goal
+use Rattle.chain.proofs.step.Goals.{then-keys-len, else-keys-len}
 
 pub loop-found-init : goal.loop-found-init
 loop-found-init c = let a = c.args in (
@@ -52,7 +52,7 @@ push-len-requires c = let a = c.args in
     let some : 0 < length (keys_of l.before) =
     omega (arith, c.requires.1, l.invariant.1, length-take (length l.before - bit_words) (drop bit_words l.before), length-drop bit_words l.before) in (
       walk_small a.leaves.now a.starts.now a.masks.now a.tie.word l.found _ c.in-At.is l.invariant.0,
-      ⊎_elim (λ w. omega (arith, w.7)) (λ w. omega (arith, w.0.left, w.3)) c.if-keys-len.branch-raw,
+      elim c.if-keys-len.branch [ then-keys-len w ↦ omega (arith, w.len-is) | else-keys-len w ↦ omega (arith, w.if-keys-len.false, w.len-is) ],
     )
 
 pub loop-found-smaller : goal.loop-found-smaller
@@ -63,9 +63,9 @@ pub loop-found-preserved : goal.loop-found-preserved
 loop-found-preserved c = let a = c.args in
     let l = c.loop-found in
     let size : length c.if-keys-len.marks ≡ length a.marks.now =
-    ⊎_elim (λ w. ap length w.5 ∙ w.2.kept.1.1.1.1.1.1.1.1.1.0 ∙ l.invariant.2) (λ w. ap length w.1 ∙ l.invariant.2) c.if-keys-len.branch-raw in
+    elim c.if-keys-len.branch [ then-keys-len w ↦ ap length w.marks-is ∙ w.mark-then-keys-len.auto.marks ∙ l.invariant.2 | else-keys-len w ↦ ap length w.marks-is ∙ l.invariant.2 ] in
     let ordered : Ordered (keys_of l.before) c.if-keys-len.len =
-    ⊎_elim (λ w. subst (Ordered (keys_of l.before)) (sym w.7) (ordered_none (keys_of l.before))) (λ w. subst (Ordered (keys_of l.before)) (sym w.3) l.invariant.5) c.if-keys-len.branch-raw in
+    elim c.if-keys-len.branch [ then-keys-len w ↦ subst (Ordered (keys_of l.before)) (sym w.len-is) (ordered_none (keys_of l.before)) | else-keys-len w ↦ subst (Ordered (keys_of l.before)) (sym w.len-is) l.invariant.5 ] in
     let kept = c.push-len.auto.keys in
     let inside : bit_words ≤ length l.before = omega (arith, c.requires.1, l.invariant.1) in
     let part = back_part l.before c.push-len.new.keys bit_words inside kept in
@@ -80,14 +80,12 @@ loop-found-preserved c = let a = c.args in
           let n = l.invariant.6 hits row room in
           subst (λ (x : List ℕ). Stepping a.leaves.now a.starts.now a.masks.now a.i a.set a.tie (source_of a.first a.origin a.before.now) hits x c.push-len.result c.if-keys-len.fresh c.if-keys-len.marks (l.j + 1) c.advance-found.result) (sym part)
           (stepping_push a.leaves.now a.starts.now a.masks.now a.i a.set a.tie (source_of a.first a.origin a.before.now) hits (keys_of l.before) c.if-keys-len.len c.if-keys-len.fresh c.if-keys-len.marks l.j l.found
-          (⊎_elim
-          (λ w.
-          stepping_same a.leaves.now a.starts.now a.masks.now a.i a.set a.tie (source_of a.first a.origin a.before.now) hits (keys_of l.before) 0 false _ l.j l.found
-          (stepping_flush a.leaves.now a.starts.now a.masks.now a.i a.set a.tie (source_of a.first a.origin a.before.now) hits (keys_of l.before) l.len l.fresh l.marks l.j l.found n _ w.2.result (w.2.ensures hits row (omega (arith, l.invariant.2)) l.invariant.5))
-          c.if-keys-len.len c.if-keys-len.fresh c.if-keys-len.marks w.5 w.6 w.7)
-          (λ w.
-          stepping_same a.leaves.now a.starts.now a.masks.now a.i a.set a.tie (source_of a.first a.origin a.before.now) hits (keys_of l.before) l.len l.fresh l.marks l.j l.found n c.if-keys-len.len c.if-keys-len.fresh c.if-keys-len.marks w.1 w.2 w.3)
-          c.if-keys-len.branch-raw)
+          (elim c.if-keys-len.branch [
+            | then-keys-len w ↦ stepping_same a.leaves.now a.starts.now a.masks.now a.i a.set a.tie (source_of a.first a.origin a.before.now) hits (keys_of l.before) 0 false _ l.j l.found
+                (stepping_flush a.leaves.now a.starts.now a.masks.now a.i a.set a.tie (source_of a.first a.origin a.before.now) hits (keys_of l.before) l.len l.fresh l.marks l.j l.found n _ w.mark-then-keys-len.result (w.mark-then-keys-len.ensures hits row (omega (arith, l.invariant.2)) l.invariant.5))
+                c.if-keys-len.len c.if-keys-len.fresh c.if-keys-len.marks w.marks-is w.fresh-is w.len-is
+            | else-keys-len w ↦ stepping_same a.leaves.now a.starts.now a.masks.now a.i a.set a.tie (source_of a.first a.origin a.before.now) hits (keys_of l.before) l.len l.fresh l.marks l.j l.found n c.if-keys-len.len c.if-keys-len.fresh c.if-keys-len.marks w.marks-is w.fresh-is w.len-is
+          ])
           _ c.in-At.is
           (walk_small a.leaves.now a.starts.now a.masks.now a.tie.word l.found _ c.in-At.is l.invariant.0)
           c.is_source-wanted.result

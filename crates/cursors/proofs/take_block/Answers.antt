@@ -61,18 +61,6 @@ loop-i-preserved-then-is_elsewhere c = let l = c.loop-i in
           (l.invariant.6.others l.i (λ (u : a.from ≤ l.i) (v : l.i < l.i). omega arith)) o,
     )
 
-pub offset_bounds-docids-i-in-loop-i : goal.offset_bounds-docids-i-in-loop-i
-offset_bounds-docids-i-in-loop-i c = mul_at (goal.at.offset_bounds-docids-i-in-loop-i c).In-loop-i
-
-pub offset_bounds-bodies-i-in-loop-i : goal.offset_bounds-bodies-i-in-loop-i
-offset_bounds-bodies-i-in-loop-i c = mul-body (goal.at.offset_bounds-bodies-i-in-loop-i c).After-slice_known-in-loop-i-1
-
-pub over_hit-scan-requires : goal.over_hit-scan-requires
-over_hit-scan-requires c = let l = c.loop-i in
-    let t = c.loop-i-test.true in
-    let m = mul_at (goal.at.over_hit-scan-requires c).In-loop-i in
-    (omega (arith, m.fits, l.invariant.6.few_hits), omega (arith, m.fits, l.invariant.6.few_taken))
-
 pub overflow_add-i-in-loop-i : goal.overflow_add-i-in-loop-i
 overflow_add-i-in-loop-i c = omega (arith, c.loop-i-test.true, c.ranges.to)
 

@@ -25,7 +25,7 @@ loop-j-preserved c = let l = c.loop-j in
       omega (arith, c.loop-j-test.true),
       λ i h.
           same_or i l.j
-          (λ e. subst (λ k. Placed a.size (front_at a.t1 k)) (sym e) (c.is_placed.ensures.0 (not-false _ c.if-not-is_placed.false-raw)))
+          (λ e. subst (λ k. Placed a.size (front_at a.fronts k)) (sym e) (c.is_placed.ensures.0 (not-false _ c.if-not-is_placed.false-raw)))
           (λ e. l.invariant.1 i (omega arith)),
     )
 

@@ -22,27 +22,27 @@ least-at-requires c = (c.if-m-gt-MAX_LEAVES.false, λ j h. (c.are_placed.ensures
 pub returns-then-m-at : goal.returns-then-m-at
 returns-then-m-at c = record {
   places = search rules;
-  content = λ _ _. lead_nobody c.args.t1 c.args.m c.least-at.result c.least-at.ensures c.no_front-none.result c.no_front-none.ensures.0 (search rules) c.if-m-at.true;
+  content = λ _ _. lead_nobody c.args.fronts c.args.m c.least-at.result c.least-at.ensures c.no_front-none.result c.no_front-none.ensures.0 (search rules) c.if-m-at.true;
   otherwise = λ _. c.no_front-none.ensures.0;
 }
 
 pub least-second-requires : goal.least-second-requires
-least-second-requires c = let h : length c.args.t1 ≡ 8 = search rules in
+least-second-requires c = let h : length c.args.fronts ≡ 8 = search rules in
     let p = c.are_placed.ensures.0 (not-false _ c.if-not-are_placed.false-raw) in (
       c.if-m-gt-MAX_LEAVES.false,
-      λ j z. (placed_set c.args.t1 c.least-at.result c.args.m c.no_front-none.result (omega (arith, h, c.if-m-at.false, c.if-m-gt-MAX_LEAVES.false)) (placed_none c.no_front-none.ensures.0 c.no_front-none.ensures.1) p j z).sized,
+      λ j z. (placed_set c.args.fronts c.least-at.result c.args.m c.no_front-none.result (omega (arith, h, c.if-m-at.false, c.if-m-gt-MAX_LEAVES.false)) (placed_none c.no_front-none.ensures.0 c.no_front-none.ensures.1) p j z).sized,
     )
 
 pub returns-then-m-second : goal.returns-then-m-second
 returns-then-m-second c = record {
   places = search rules;
-  content = λ _ _. lead_only c.args.t1 c.args.m c.least-at.result c.least-at.ensures c.no_front-none.result c.no_front-none.ensures.0 c.if-m-at.false (let h : length c.args.t1 ≡ 8 = search rules in omega (arith, h, c.if-m-gt-MAX_LEAVES.false)) c.least-second.result c.least-second.ensures c.if-m-second.true;
+  content = λ _ _. lead_only c.args.fronts c.args.m c.least-at.result c.least-at.ensures c.no_front-none.result c.no_front-none.ensures.0 c.if-m-at.false (let h : length c.args.fronts ≡ 8 = search rules in omega (arith, h, c.if-m-gt-MAX_LEAVES.false)) c.least-second.result c.least-second.ensures c.if-m-second.true;
   otherwise = λ no. absurd (no (c.if-m-gt-MAX_LEAVES.false, c.are_placed.ensures.0 (not-false _ c.if-not-are_placed.false-raw)));
 }
 
 pub returns : goal.returns
 returns c = record {
   places = search rules;
-  content = λ _ _. lead_and_rival c.args.t1 c.args.m c.least-at.result c.least-at.ensures c.no_front-none.result c.no_front-none.ensures.0 c.if-m-at.false (let h : length c.args.t1 ≡ 8 = search rules in omega (arith, h, c.if-m-gt-MAX_LEAVES.false)) c.least-second.result c.least-second.ensures c.if-m-second.false;
+  content = λ _ _. lead_and_rival c.args.fronts c.args.m c.least-at.result c.least-at.ensures c.no_front-none.result c.no_front-none.ensures.0 c.if-m-at.false (let h : length c.args.fronts ≡ 8 = search rules in omega (arith, h, c.if-m-gt-MAX_LEAVES.false)) c.least-second.result c.least-second.ensures c.if-m-second.false;
   otherwise = λ no. absurd (no (c.if-m-gt-MAX_LEAVES.false, c.are_placed.ensures.0 (not-false _ c.if-not-are_placed.false-raw)));
 }

@@ -7,7 +7,7 @@ use borrow.Author.Rules.{rules}
 use Rattle.opening.proofs.least.Goals as goal
 
 pub loop-j-init : goal.loop-j-init
-loop-j-init c = (omega arith, choosing_start c.args.t1 c.args.m c.no_front-front.result c.no_front-front.ensures.0 c.no_front-front.ensures.1)
+loop-j-init c = (omega arith, choosing_start c.args.fronts c.args.m c.no_front-front.result c.no_front-front.ensures.0 c.no_front-front.ensures.1)
 
 pub bounds-fronts-j : goal.bounds-fronts-j
 bounds-fronts-j c = omega (arith, c.requires.0)
@@ -22,7 +22,7 @@ pub loop-j-preserved-then-is_earlier : goal.loop-j-preserved-then-is_earlier
 loop-j-preserved-then-is_earlier c = let l = c.loop-j in
     let a = c.args in (
       omega arith,
-      choosing_better a.t1 a.m l.best l.front l.j l.invariant.1 (front_at a.t1 l.j) refl (c.requires.1 l.j c.loop-j-test.true)
+      choosing_better a.fronts a.m l.best l.front l.j l.invariant.1 (front_at a.fronts l.j) refl (c.requires.1 l.j c.loop-j-test.true)
           (sym c.is_earlier.ensures ∙ c.if-is_earlier.true),
     )
 
@@ -33,10 +33,10 @@ pub loop-j-preserved : goal.loop-j-preserved
 loop-j-preserved c = let l = c.loop-j in
     let a = c.args in (
       omega arith,
-      choosing_kept a.t1 a.m l.best l.front l.j l.invariant.1 (front_at a.t1 l.j) refl (sym c.is_earlier.ensures ∙ c.if-is_earlier.false),
+      choosing_kept a.fronts a.m l.best l.front l.j l.invariant.1 (front_at a.fronts l.j) refl (sym c.is_earlier.ensures ∙ c.if-is_earlier.false),
     )
 
 pub returns : goal.returns
 returns c = let l = c.loop-j in
     let a = c.args in
-    chosen a.t1 a.m l.best l.front l.j (omega arith) l.invariant.1
+    chosen a.fronts a.m l.best l.front l.j (omega arith) l.invariant.1

@@ -41,12 +41,11 @@ pub returns : goal.returns
 returns c = let a = c.args in
     let p = c.are_placed.ensures.0 (not-false _ c.if-not-are_placed.false-raw) in
     let o = openable_of (c.is_able.ensures.0 (not-false _ c.if-not-is_able.false-raw)) in
-    let last = c.take_word-taken.new.1.1.1.1.1.1.1.1.1 in
-    let held : Arrays = arrays last.0 last.1.0 last.1.1.0 last.1.1.1.0 last.1.1.1.1.0 in
+    let held : Arrays = arrays c.take_word-taken.new.docids c.take_word-taken.new.bodies c.take_word-taken.new.lasts c.take_word-taken.new.masks c.take_word-taken.new.follows in
     let given : Arrays = arrays a.docids.now a.bodies.now a.lasts.now a.masks.now a.follows.now in
     record {
       content = λ nodes columns left w f _ _ room.
-          inr (walk_on nodes columns a.leaves.now a.ends.now a.order.now a.t8 left f c.least-best.result c.least-best.ensures given held c.take_word-taken.result room c.if-order-best.false
+          inr (walk_on nodes columns a.leaves.now a.ends.now a.order.now a.fronts left f c.least-best.result c.least-best.ensures given held c.take_word-taken.result room c.if-order-best.false
           (λ us cs. c.take_word-taken.ensures.content nodes columns us cs w));
       placed = λ _. c.take_word-taken.ensures.able.0.placed;
       sized = (p c.least-best.result c.if-order-best.false).sized;

@@ -101,8 +101,7 @@ shape_of-follows-then-taken-n c = c.take_word-taken.auto.follows ∙ c.loop-fron
 pub returns-then-taken-n : goal.returns-then-taken-n
 returns-then-taken-n c = let l = c.loop-fronts in
     let a = c.args in
-    let last = c.take_word-taken.new.1.1.1.1.1.1.1.1.1 in
-    let held : Arrays = arrays last.0 last.1.0 last.1.1.0 last.1.1.1.0 last.1.1.1.1.0 in
+    let held : Arrays = arrays c.take_word-taken.new.docids c.take_word-taken.new.bodies c.take_word-taken.new.lasts c.take_word-taken.new.masks c.take_word-taken.new.follows in
     let given : Arrays = arrays a.docids.now a.bodies.now a.lasts.now a.masks.now a.follows.now in
     let z = l.invariant.2.docids_kept.size in
     let v = l.invariant.0 in
@@ -125,8 +124,7 @@ loop-fronts-smaller c = omega (arith, c.if-taken-n.false, c.take_word-taken.ensu
 pub loop-fronts-preserved : goal.loop-fronts-preserved
 loop-fronts-preserved c = let l = c.loop-fronts in
     let a = c.args in
-    let last = c.take_word-taken.new.1.1.1.1.1.1.1.1.1 in
-    let held : Arrays = arrays last.0 last.1.0 last.1.1.0 last.1.1.1.0 last.1.1.1.1.0 in
+    let held : Arrays = arrays c.take_word-taken.new.docids c.take_word-taken.new.bodies c.take_word-taken.new.lasts c.take_word-taken.new.masks c.take_word-taken.new.follows in
     let given : Arrays = arrays a.docids.now a.bodies.now a.lasts.now a.masks.now a.follows.now in
     let z = frame_lengths l.invariant.2 in (
       able_as c.take_word-taken.ensures.able.0 (lengths_back z),
