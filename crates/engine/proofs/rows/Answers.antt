@@ -38,4 +38,4 @@ loop-from-smaller c = omega (arith, c.if-docid-from.false, c.row_at-docid.type_i
 pub loop-from-preserved : goal.loop-from-preserved
 loop-from-preserved c = let k = c.take_row-row.auto in
     going_on c.loop-from.invariant c.row_at-docid.result (sym c.row_at-docid.ensures) c.if-docid-from.false (omega (arith, c.row_at-docid.type_inv)) {docids₁ = c.take_row-row.new.docids} {bodies₁ = c.take_row-row.new.bodies} {mins₁ = c.take_row-row.new.mins} c.take_row-row.result c.take_row-row.ensures c.note-count.ensures c.if-docid.false
-    k.1.1.1.1.0 k.1.1.1.1.1.0 k.1.1.1.1.1.1.1.1.1.1.0 k.1.1.1.1.1.1.1.1.1.1.1.0 k.1.1.1.1.1.1.1.1.1.1.1.1.0 k.1.1.1.1.1.1.1.1.1.1.1.1.1.0 k.1.1.1.1.1.1.1.1.1.1.1.1.1.1.0
+    k.docids k.bodies k.mins k.starts k.matched k.marks k.spare

@@ -15,4 +15,4 @@ shape_of-room c = c.rows.auto.room ∙ c.clear.auto.room
 pub returns : goal.returns
 returns c = let o = c.open-n in
     let s = c.clear.auto.room in
-    rw (← s) (ran {query = c.args.query} (λ nodes columns terms w l. o.ensures.content nodes columns terms w l (omega (arith, l.small)) (omega arith, omega arith, omega arith, omega arith)) o.auto.1.1.1.1.1.1.1.0 c.rows.ensures)
+    rw (← s) (ran {query = c.args.query} (λ nodes columns terms w l. o.ensures.content nodes columns terms w l (omega (arith, l.small)) (omega arith, omega arith, omega arith, omega arith)) o.auto.docids c.rows.ensures)

@@ -15,13 +15,13 @@ pub slice_bounds-put_term_at-end : goal.slice_bounds-put_term_at-end
 slice_bounds-put_term_at-end c = let h : length c.args.stored.word ≡ 64 = search rules in sym (length-take-le c.args.stored.size c.args.stored.word (omega (arith, c.requires)))
 
 pub slice_bounds-put_term_at-end-2 : goal.slice_bounds-put_term_at-end-2
-slice_bounds-put_term_at-end-2 c = let h : length c.args.t5 ≡ 64 = search rules in sym (length-take-le c.args.size c.args.t5 (omega (arith, c.requires)))
+slice_bounds-put_term_at-end-2 c = let h : length c.args.word ≡ 64 = search rules in sym (length-take-le c.args.size c.args.word (omega (arith, c.requires)))
 
 pub put_term_at-more-requires : goal.put_term_at-more-requires
-put_term_at-more-requires c = let h : length c.args.t5 ≡ 64 = search rules in omega (arith, length-take-le c.args.size c.args.t5 (omega (arith, c.requires)), c.requires)
+put_term_at-more-requires c = let h : length c.args.word ≡ 64 = search rules in omega (arith, length-take-le c.args.size c.args.word (omega (arith, c.requires)), c.requires)
 
 pub returns-then-more-eq0 : goal.returns-then-more-eq0
-returns-then-more-eq0 c = word_none c.args.t5 c.args.size c.put_term_at-more.ensures c.requires.1 c.if-more-eq0.true c.requires.0
+returns-then-more-eq0 c = word_none c.args.word c.args.size c.put_term_at-more.ensures c.requires.1 c.if-more-eq0.true c.requires.0
 
 pub returns : goal.returns
-returns c = word_some c.args.t5 c.args.size c.put_term_at-more.ensures c.requires.1 c.if-more-eq0.false c.requires.2 _ (leb-true _ _) (leb-false _ _)
+returns c = word_some c.args.word c.args.size c.put_term_at-more.ensures c.requires.1 c.if-more-eq0.false c.requires.2 _ (leb-true _ _) (leb-false _ _)
