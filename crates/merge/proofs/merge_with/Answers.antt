@@ -35,17 +35,15 @@ pub returns-then-need-gt-MAX_INDEX_BYTES : goal.returns-then-need-gt-MAX_INDEX_B
 returns-then-need-gt-MAX_INDEX_BYTES c = let a = c.args in
     let ok = not-false _ c.if-not-order.false in
     let s = c.order_of-order.ensures.shape.0 ok in
-    let p = c.put_terms-need in
     let o = order_lent a.ends.now _ _ s.dated c.order_of-order.result (c.order_of-order.ensures.order ok) ok in
-    need_refused _ _ _ _ _ c.order_of-order.result.ok c.order_of-order.ensures.shape ok c.sound_leaves-sound.result (c.sound_leaves-sound.ensures.sound (s.some_column, s.few_columns, s.few_bytes)) c.if-sound-count.false _ o p.result _ _ p.ensures c.if-need-gt-MAX_INDEX_BYTES.true refl (zeros_in (length a.room.now) p.new.0 c.clear.ensures p.auto.0 c.clear-then-need-gt-MAX_INDEX_BYTES.ensures)
+    need_refused _ _ _ _ _ c.order_of-order.result.ok c.order_of-order.ensures.shape ok c.sound_leaves-sound.result (c.sound_leaves-sound.ensures.sound (s.some_column, s.few_columns, s.few_bytes)) c.if-sound-count.false _ o c.put_terms-need.result _ _ c.put_terms-need.ensures c.if-need-gt-MAX_INDEX_BYTES.true refl (zeros_in (length a.room.now) c.put_terms-need.new.out c.clear.ensures c.put_terms-need.auto.out c.clear-then-need-gt-MAX_INDEX_BYTES.ensures)
 
 pub returns-then-room-need : goal.returns-then-room-need
 returns-then-room-need c = let a = c.args in
     let ok = not-false _ c.if-not-order.false in
     let s = c.order_of-order.ensures.shape.0 ok in
-    let p = c.put_terms-need in
     let o = order_lent a.ends.now _ _ s.dated c.order_of-order.result (c.order_of-order.ensures.order ok) ok in
-    room_refused _ _ _ _ _ c.order_of-order.result.ok c.order_of-order.ensures.shape ok c.sound_leaves-sound.result (c.sound_leaves-sound.ensures.sound (s.some_column, s.few_columns, s.few_bytes)) c.if-sound-count.false _ o p.result _ _ p.ensures c.if-need-gt-MAX_INDEX_BYTES.false (omega (arith, room_size (length a.room.now) p.new.0 c.clear.ensures p.auto.0, c.if-room-need.true)) refl (zeros_in (length a.room.now) p.new.0 c.clear.ensures p.auto.0 c.clear-then-room-need.ensures)
+    room_refused _ _ _ _ _ c.order_of-order.result.ok c.order_of-order.ensures.shape ok c.sound_leaves-sound.result (c.sound_leaves-sound.ensures.sound (s.some_column, s.few_columns, s.few_bytes)) c.if-sound-count.false _ o c.put_terms-need.result _ _ c.put_terms-need.ensures c.if-need-gt-MAX_INDEX_BYTES.false (omega (arith, room_size (length a.room.now) c.put_terms-need.new.out c.clear.ensures c.put_terms-need.auto.out, c.if-room-need.true)) refl (zeros_in (length a.room.now) c.put_terms-need.new.out c.clear.ensures c.put_terms-need.auto.out c.clear-then-room-need.ensures)
 
 pub overflow_cast-places : goal.overflow_cast-places
 overflow_cast-places c = let a = c.args in
@@ -66,8 +64,7 @@ pub returns : goal.returns
 returns c = let a = c.args in
     let ok = not-false _ c.if-not-order.false in
     let s = c.order_of-order.ensures.shape.0 ok in
-    let p = c.put_terms-need in
     let z = c.clear.ensures in
     let o = order_lent a.ends.now _ _ s.dated c.order_of-order.result (c.order_of-order.ensures.order ok) ok in
-    all_written _ _ _ _ _ c.order_of-order.result.ok c.order_of-order.ensures.shape ok c.sound_leaves-sound.result (c.sound_leaves-sound.ensures.sound (s.some_column, s.few_columns, s.few_bytes)) c.if-sound-count.false _ o p.result _ _ p.ensures c.if-need-gt-MAX_INDEX_BYTES.false (omega (arith, room_size (length a.room.now) p.new.0 z p.auto.0, c.if-room-need.false)) z _ _
+    all_written _ _ _ _ _ c.order_of-order.result.ok c.order_of-order.ensures.shape ok c.sound_leaves-sound.result (c.sound_leaves-sound.ensures.sound (s.some_column, s.few_columns, s.few_bytes)) c.if-sound-count.false _ o c.put_terms-need.result _ _ c.put_terms-need.ensures c.if-need-gt-MAX_INDEX_BYTES.false (omega (arith, room_size (length a.room.now) c.put_terms-need.new.out z c.put_terms-need.auto.out, c.if-room-need.false)) z _ _
     (front_first a.ends.now c.order_of-order.result.places s.some_leaf (order_room a.ends.now _ _ s.dated c.order_of-order.result (c.order_of-order.ensures.order ok) ok)) c.written.ensures refl

@@ -53,16 +53,16 @@ pub bounds-places-i-in-loop-lasts : goal.bounds-places-i-in-loop-lasts
 bounds-places-i-in-loop-lasts c = omega (arith, c.first_of-first.ensures.inside c.if-i-eq-MAX_LEAVES.false)
 
 pub overflow_add-from : goal.overflow_add-from
-overflow_add-from c = let d : get_or c.loop-lasts.at c.first_of-first.result.at 0 < last_key = omega (arith, c.if-docid.false, (c.first_of-first.ensures.here c.if-i-eq-MAX_LEAVES.false).1, c.first_of-first.type-inv.1) in
+overflow_add-from c = let d : get_or c.loop-lasts.at c.first_of-first.result.at 0 < last_key = omega (arith, c.if-docid.false, (c.first_of-first.ensures.here c.if-i-eq-MAX_LEAVES.false).1, c.first_of-first.type_inv.1) in
     omega (arith, (c.turn_of-turn.ensures.place.onward d).1)
 
 pub loop-lasts-smaller : goal.loop-lasts-smaller
 loop-lasts-smaller c = let i = c.first_of-first.result.at in
-    let d : get_or c.loop-lasts.at i 0 < last_key = omega (arith, c.if-docid.false, (c.first_of-first.ensures.here c.if-i-eq-MAX_LEAVES.false).1, c.first_of-first.type-inv.1) in
-    let v : c.turn_of-turn.result.next.docid ≤ last_key = omega (arith, c.turn_of-turn.type-inv) in
+    let d : get_or c.loop-lasts.at i 0 < last_key = omega (arith, c.if-docid.false, (c.first_of-first.ensures.here c.if-i-eq-MAX_LEAVES.false).1, c.first_of-first.type_inv.1) in
+    let v : c.turn_of-turn.result.next.docid ≤ last_key = omega (arith, c.turn_of-turn.type_inv) in
     ahead_falls c.loop-lasts.at i c.turn_of-turn.result.next.docid (omega (arith, c.loop-lasts.invariant.docids_size, c.first_of-first.ensures.inside c.if-i-eq-MAX_LEAVES.false)) (c.turn_of-turn.ensures.place.onward d).0 v
 
 pub loop-lasts-preserved : goal.loop-lasts-preserved
 loop-lasts-preserved c = let i = c.first_of-first.result.at in
-    let d : get_or c.loop-lasts.at i 0 < last_key = omega (arith, c.if-docid.false, (c.first_of-first.ensures.here c.if-i-eq-MAX_LEAVES.false).1, c.first_of-first.type-inv.1) in
-    going_on c.loop-lasts.invariant c.first_of-first.result c.first_of-first.ensures c.if-i-eq-MAX_LEAVES.false c.turn_of-turn.result c.store-stored.result c.turn_of-turn.ensures.content c.turn_of-turn.ensures.place c.store-stored.ensures d (omega (arith, c.if-n-gt-MAX_LEAVES.false)) c.store-stored.auto.0
+    let d : get_or c.loop-lasts.at i 0 < last_key = omega (arith, c.if-docid.false, (c.first_of-first.ensures.here c.if-i-eq-MAX_LEAVES.false).1, c.first_of-first.type_inv.1) in
+    going_on c.loop-lasts.invariant c.first_of-first.result c.first_of-first.ensures c.if-i-eq-MAX_LEAVES.false c.turn_of-turn.result c.store-stored.result c.turn_of-turn.ensures.content c.turn_of-turn.ensures.place c.store-stored.ensures d (omega (arith, c.if-n-gt-MAX_LEAVES.false)) c.store-stored.auto.out

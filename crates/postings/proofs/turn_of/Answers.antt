@@ -11,34 +11,36 @@ use Rattle.postings.proofs.turn_of.Goals as goal
 
 pub returns-then-to-start : goal.returns-then-to-start
 returns-then-to-start c =
-    let both = rw c.passed_over.ensures (λ e es on. absurd (omega (arith, last_inside on)), record { inside = omega arith; few = omega arith; onward = λ h. (omega arith, omega arith) }) in
-    record { content = both.0; place = both.1 }
+    record {
+      content = rw c.passed_over.ensures (λ e es on. absurd (omega (arith, last_inside on)));
+      place = rw c.passed_over.ensures (record { inside = omega arith; few = omega arith; onward = λ h. (omega arith, omega arith) });
+    }
 
 pub returns-then-leaves-to : goal.returns-then-leaves-to
 returns-then-leaves-to c =
-    let both = rw c.passed_over-then-leaves-to.ensures (λ e es on. absurd (omega (arith, last_inside on)), record { inside = omega arith; few = omega arith; onward = λ h. (omega arith, omega arith) }) in
-    record { content = both.0; place = both.1 }
+    record {
+      content = rw c.passed_over-then-leaves-to.ensures (λ e es on. absurd (omega (arith, last_inside on)));
+      place = rw c.passed_over-then-leaves-to.ensures (record { inside = omega arith; few = omega arith; onward = λ h. (omega arith, omega arith) });
+    }
 
 pub returns-then-docid-from : goal.returns-then-docid-from
 returns-then-docid-from c =
-    let both = rw c.passed_over-then-docid-from.ensures (
-      λ e es on. inl (record { none = refl; why = inl (c.if-docid-from.true, omega arith); stands = c.entry_after.ensures.content e es on }),
-      record { inside = omega arith; few = omega arith; onward = λ h. (c.entry_after.ensures.onward h, omega arith) },
-    ) in
-    record { content = both.0; place = both.1 }
+    record {
+      content = rw c.passed_over-then-docid-from.ensures (λ e es on. inl (record { none = refl; why = inl (c.if-docid-from.true, omega arith); stands = c.entry_after.ensures.content e es on }));
+      place = rw c.passed_over-then-docid-from.ensures (record { inside = omega arith; few = omega arith; onward = λ h. (c.entry_after.ensures.onward h, omega arith) });
+    }
 
 pub returns-then-is_dropped : goal.returns-then-is_dropped
 returns-then-is_dropped c =
-    let both = rw c.passed_over-then-is_dropped.ensures (
-      λ e es on.
+    record {
+      content = rw c.passed_over-then-is_dropped.ensures (λ e es on.
           inl (record {
             none = refl;
             why = inr (c.if-docid-from.false, dropped_is on c.args.keep (sym c.is_dropped.ensures ∙ c.if-is_dropped.true), refl);
             stands = c.entry_after-then-is_dropped.ensures.content e es on;
-          }),
-      record { inside = omega arith; few = omega arith; onward = λ h. (c.entry_after-then-is_dropped.ensures.onward h, h) },
-    ) in
-    record { content = both.0; place = both.1 }
+          }));
+      place = rw c.passed_over-then-is_dropped.ensures (record { inside = omega arith; few = omega arith; onward = λ h. (c.entry_after-then-is_dropped.ensures.onward h, h) });
+    }
 
 pub returns : goal.returns
 returns c =

@@ -17,7 +17,7 @@ pub loop-stored-smaller : goal.loop-stored-smaller
 loop-stored-smaller c = omega (arith, c.if-left-eq0.false)
 
 pub loop-stored-preserved : goal.loop-stored-preserved
-loop-stored-preserved c = alone_on c.loop-stored.invariant c.lone_step-taken.auto.0 c.lone_step-taken.ensures c.loop-stored-test.true (not-false _ c.if-not-taken.false)
+loop-stored-preserved c = alone_on c.loop-stored.invariant c.lone_step-taken.auto.out c.lone_step-taken.ensures c.loop-stored-test.true (not-false _ c.if-not-taken.false)
 
 pub shape_of-out-after-loop-stored : goal.shape_of-out-after-loop-stored
 shape_of-out-after-loop-stored c = c.loop-stored.invariant.room_size
@@ -32,7 +32,7 @@ pub returns-then-left-eq0 : goal.returns-then-left-eq0
 returns-then-left-eq0 c = c.loop-stored.invariant.runs
 
 pub shape_of-out-then-not-taken : goal.shape_of-out-then-not-taken
-shape_of-out-then-not-taken c = c.lone_step-taken.auto.0 ∙ c.loop-stored.invariant.room_size
+shape_of-out-then-not-taken c = c.lone_step-taken.auto.out ∙ c.loop-stored.invariant.room_size
 
 pub returns-then-not-taken : goal.returns-then-not-taken
-returns-then-not-taken c = alone_out c.loop-stored.invariant c.lone_step-taken.auto.0 c.lone_step-taken.ensures (not-true _ c.if-not-taken.true)
+returns-then-not-taken c = alone_out c.loop-stored.invariant c.lone_step-taken.auto.out c.lone_step-taken.ensures (not-true _ c.if-not-taken.true)

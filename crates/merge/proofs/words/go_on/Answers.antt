@@ -19,7 +19,7 @@ pub overflow_sub-result : goal.overflow_sub-result
 overflow_sub-result c = omega (arith, c.if-ran-left.false, c.requires.2)
 
 pub shape_of-out : goal.shape_of-out
-shape_of-out c = c.step-next.auto.0 ∙ c.go_alone-ran.auto.0
+shape_of-out c = c.step-next.auto.out ∙ c.go_alone-ran.auto.out
 
 pub returns : goal.returns
 returns c = round_steps c.lead_of-lead.ensures c.requires.1 c.go_alone-ran.ensures c.with_lead-rest.ensures c.requires.2 (not-false _ c.if-not-held.false) c.step-next.ensures

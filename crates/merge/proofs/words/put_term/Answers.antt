@@ -21,8 +21,5 @@ pub returns-then-out-size : goal.returns-then-out-size
 returns-then-out-size c = term_counted c.args.lists c.put_list-list.ensures c.args.before.now c.args.word.now c.requires c.if-list-eq0.false _ (omega (arith, c.word_size.ensures, c.size.ensures)) c.if-out-size.true
 
 pub returns : goal.returns
-returns c = let w = c.put_word-at in
-    let k = c.put_number-at in
-    let l = c.put_list in
-    term_written c.args.lists c.put_list-list.ensures c.args.before.now c.args.word.now c.requires c.if-list-eq0.false _ (omega (arith, c.word_size.ensures, c.size.ensures)) c.if-out-size.false w.new.0 w.result w.ensures
-    k.new.0 k.result k.ensures l.new.0 l.result l.ensures
+returns c = term_written c.args.lists c.put_list-list.ensures c.args.before.now c.args.word.now c.requires c.if-list-eq0.false _ (omega (arith, c.word_size.ensures, c.size.ensures)) c.if-out-size.false c.put_word-at.new.out c.put_word-at.result c.put_word-at.ensures
+    c.put_number-at.new.out c.put_number-at.result c.put_number-at.ensures c.put_list.new.out c.put_list.result c.put_list.ensures

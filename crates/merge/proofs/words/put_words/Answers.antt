@@ -19,7 +19,7 @@ pub loop-stored-smaller : goal.loop-stored-smaller
 loop-stored-smaller c = c.go_on-next.ensures.fewer
 
 pub loop-stored-preserved : goal.loop-stored-preserved
-loop-stored-preserved c = loop_on c.loop-stored.invariant c.go_on-next.auto.0 c.go_on-next.ensures
+loop-stored-preserved c = loop_on c.loop-stored.invariant c.go_on-next.auto.out c.go_on-next.ensures
 
 pub shape_of-out : goal.shape_of-out
 shape_of-out c = c.loop-stored.invariant.room_size
