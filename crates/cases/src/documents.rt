@@ -4,6 +4,7 @@ ghost use Rattle.writer.specs.Answers.{numbers_of};
 ghost use Rattle.cases.specs.Rooms.{reach};
 
 use crate::exchange;
+use std::io::{self, Write};
 use writer::Answer;
 
 // What the room holds beforehand.
@@ -49,36 +50,54 @@ fn held(room: &[u8]) -> usize
 }
 
 // The leaf: so many bytes of the room where one was written, else none.
-fn say_leaf(number: u64, second: usize, room: &[u8]) {
+fn say_leaf(out: &mut impl Write, number: u64, second: usize, room: &[u8]) -> io::Result<()> {
     if number != 0 {
-        exchange::say_nothing();
-        return;
+        return exchange::say_nothing(out);
     }
     if second <= room.len() {
-        exchange::say_bytes(&room[0..second]);
+        exchange::say_bytes(out, &room[0..second])?;
     }
+    Ok(())
 }
 
 // What the room holds: the leaf, and how far from the start it has a byte that is not 0.
-pub(crate) fn say_room(number: u64, second: usize, room: &[u8]) {
-    say_leaf(number, second, room);
-    exchange::say(held(room) as u64);
+pub(crate) fn say_room(
+    out: &mut impl Write,
+    number: u64,
+    second: usize,
+    room: &[u8],
+) -> io::Result<()> {
+    say_leaf(out, number, second, room)?;
+    exchange::say(out, held(room) as u64)
 }
 
-fn say_answer(number: u64, second: usize, room: &[u8]) {
-    exchange::say(number);
-    exchange::say(second as u64);
-    say_room(number, second, room);
+fn say_answer(out: &mut impl Write, number: u64, second: usize, room: &[u8]) -> io::Result<()> {
+    exchange::say(out, number)?;
+    exchange::say(out, second as u64)?;
+    say_room(out, number, second, room)
 }
 
-fn write_into(docid: i64, texts: &[u8], ends: &[u32], room: &mut [u8]) {
+fn write_into(
+    out: &mut impl Write,
+    docid: i64,
+    texts: &[u8],
+    ends: &[u32],
+    room: &mut [u8],
+) -> io::Result<()> {
     let answer = writer::write(docid, texts, ends, &mut room[0..]);
-    say_answer(number(answer), second(answer), room);
+    say_answer(out, number(answer), second(answer), room)
 }
 
-pub(crate) fn write(docid: i64, texts: &[u8], ends: &[u32], size: usize) {
+pub(crate) fn write(
+    out: &mut impl Write,
+    docid: i64,
+    texts: &[u8],
+    ends: &[u32],
+    size: usize,
+) -> io::Result<()> {
     let mut room = [OTHER; MAX_ROOM];
     if size <= MAX_ROOM {
-        write_into(docid, texts, ends, &mut room[0..size]);
+        write_into(out, docid, texts, ends, &mut room[0..size])?;
     }
+    Ok(())
 }

@@ -1,11 +1,11 @@
 // Reading compared cases from standard input and writing their answers to standard output. A number takes eight bytes, the
 // highest first; a field is its length and its bytes; ends are their count and four bytes each. Nothing can be promised of
-// what is read: only that it lies in the buffer.
-ghost use Rattle.std.specs.Prelude.{◌≡◌, ◌+◌, ◌*◌, ◌%◌, ◌^◌, ◌≤◌, ◌<◌, length};
+// what is read: only that it lies in the buffer. A read or a write that fails ends the program.
+ghost use Rattle.std.specs.Prelude.{◌≡◌, ◌+◌, ◌*◌, ◌%◌, ◌^◌, ◌≤◌, ◌<◌, length, IfOk};
 ghost use Rattle.std.specs.Int.{w64};
 ghost use Rattle.std.proofs.Common.{to_z};
 
-use libc::{STDIN_FILENO, STDOUT_FILENO};
+use std::io::{self, Read, Write};
 
 const NUMBER_BYTES: usize = 8;
 
@@ -28,11 +28,27 @@ fn quarter(a: u8, b: u8, c: u8, d: u8) -> u64
     ((wide(a) * 256 + wide(b)) * 256 + wide(c)) * 256 + wide(d)
 }
 
+// Reads until the buffer is full or the input ends.
+fn read_full(input: &mut impl Read, buf: &mut [u8]) -> io::Result<()> {
+    let mut n: usize = 0;
+    while n < buf.len() {
+        let more = input.read(&mut buf[n..])?;
+        if more == 0 {
+            break;
+        }
+        n += more;
+    }
+    Ok(())
+}
+
 // The next number; 0 at the end of the input.
-pub(crate) fn number() -> u64 {
+pub(crate) fn number(input: &mut impl Read) -> io::Result<u64> {
     let mut raw = [0u8; NUMBER_BYTES];
-    io::read_full(STDIN_FILENO, &mut raw);
-    quarter(raw[0], raw[1], raw[2], raw[3]) * 4294967296 + quarter(raw[4], raw[5], raw[6], raw[7])
+    read_full(input, &mut raw)?;
+    Ok(
+        quarter(raw[0], raw[1], raw[2], raw[3]) * 4294967296
+            + quarter(raw[4], raw[5], raw[6], raw[7]),
+    )
 }
 
 // The low half of a number.
@@ -53,68 +69,67 @@ pub(crate) fn signed_of(n: u64) -> i64
 }
 
 // The next field, at the front of the buffer, and its length.
-pub(crate) fn field(buf: &mut [u8]) -> usize
-    ensures { result ≤ length buf.old }
+pub(crate) fn field(input: &mut impl Read, buf: &mut [u8]) -> io::Result<usize>
+    ensures { IfOk result (λ n. n ≤ length buf.old) }
 {
-    let n = number();
+    let n = number(input)?;
     if (buf.len() as u64) < n {
-        return 0;
+        return Ok(0);
     }
     let size = n as usize;
-    io::read_full(STDIN_FILENO, &mut buf[0..size]);
-    size
+    read_full(input, &mut buf[0..size])?;
+    Ok(size)
 }
 
 // The next end.
-fn end() -> u32 {
+fn end(input: &mut impl Read) -> io::Result<u32> {
     let mut raw = [0u8; 4];
-    io::read_full(STDIN_FILENO, &mut raw);
-    quarter(raw[0], raw[1], raw[2], raw[3]) as u32
+    read_full(input, &mut raw)?;
+    Ok(quarter(raw[0], raw[1], raw[2], raw[3]) as u32)
 }
 
 // The next ends, at the front of the buffer, and their count.
-pub(crate) fn ends(buf: &mut [u32]) -> usize
-    ensures { result ≤ length buf.old }
+pub(crate) fn ends(input: &mut impl Read, buf: &mut [u32]) -> io::Result<usize>
+    ensures { IfOk result (λ n. n ≤ length buf.old) }
 {
-    let n = number();
+    let n = number(input)?;
     if (buf.len() as u64) < n {
-        return 0;
+        return Ok(0);
     }
     let count = n as usize;
     let mut i: usize = 0;
     while i < count {
-        buf[i] = end();
+        buf[i] = end(input)?;
         i += 1;
     }
-    count
+    Ok(count)
 }
 
 // A number and a space.
-pub(crate) fn say(n: u64) {
-    io::print_decimal(STDOUT_FILENO, n);
-    io::write_all(STDOUT_FILENO, b" ");
+pub(crate) fn say(out: &mut impl Write, n: u64) -> io::Result<()> {
+    write!(out, "{n} ")
 }
 
 // A full stop and a space: no bytes, or no answer.
-pub(crate) fn say_nothing() {
-    io::write_all(STDOUT_FILENO, b". ");
+pub(crate) fn say_nothing(out: &mut impl Write) -> io::Result<()> {
+    out.write_all(b". ")
 }
 
 // A byte in hexadecimal.
-pub(crate) fn say_byte(b: u8) {
-    io::print_hex(STDOUT_FILENO, wide(b), 2);
+pub(crate) fn say_byte(out: &mut impl Write, b: u8) -> io::Result<()> {
+    write!(out, "{b:02x}")
 }
 
 // Bytes in hexadecimal, a full stop and a space.
-pub(crate) fn say_bytes(s: &[u8]) {
+pub(crate) fn say_bytes(out: &mut impl Write, s: &[u8]) -> io::Result<()> {
     let mut i: usize = 0;
     while i < s.len() {
-        say_byte(s[i]);
+        say_byte(out, s[i])?;
         i += 1;
     }
-    say_nothing();
+    say_nothing(out)
 }
 
-pub(crate) fn end_line() {
-    io::write_all(STDOUT_FILENO, b"\n");
+pub(crate) fn end_line(out: &mut impl Write) -> io::Result<()> {
+    out.write_all(b"\n")
 }

@@ -1,95 +1,97 @@
 // The compared cases of stored numbers, cutting, names and words.
 use crate::exchange;
 use offsets::Column;
+use std::io::{self, Write};
 use tokenizer::Word;
 use varint::{Varint, Written};
 
-fn say_pair(kind: u64, size: usize) {
-    exchange::say(kind);
-    exchange::say(size as u64);
+fn say_pair(out: &mut impl Write, kind: u64, size: usize) -> io::Result<()> {
+    exchange::say(out, kind)?;
+    exchange::say(out, size as u64)
 }
 
-pub(crate) fn read_number(s: &[u8], at: usize) {
+pub(crate) fn read_number(out: &mut impl Write, s: &[u8], at: usize) -> io::Result<()> {
     match varint::read(s, at) {
         Varint::Value { value, next } => {
-            exchange::say(value);
-            exchange::say(next as u64);
+            exchange::say(out, value)?;
+            exchange::say(out, next as u64)
         }
-        Varint::Refused => exchange::say_nothing(),
+        Varint::Refused => exchange::say_nothing(out),
     }
 }
 
-pub(crate) fn number_size(v: u64) {
-    exchange::say(varint::size(v) as u64);
+pub(crate) fn number_size(out: &mut impl Write, v: u64) -> io::Result<()> {
+    exchange::say(out, varint::size(v) as u64)
 }
 
-fn say_written(answer: Written) {
+fn say_written(out: &mut impl Write, answer: Written) -> io::Result<()> {
     match answer {
-        Written::Bytes(size) => say_pair(0, size),
-        Written::NoRoom(size) => say_pair(1, size),
+        Written::Bytes(size) => say_pair(out, 0, size),
+        Written::NoRoom(size) => say_pair(out, 1, size),
     }
 }
 
-pub(crate) fn write_number(room: &mut [u8], v: u64) {
-    say_written(varint::write(&mut room[0..], v));
-    exchange::say_bytes(room);
+pub(crate) fn write_number(out: &mut impl Write, room: &mut [u8], v: u64) -> io::Result<()> {
+    say_written(out, varint::write(&mut room[0..], v))?;
+    exchange::say_bytes(out, room)
 }
 
-fn say_flag(yes: bool) {
+fn say_flag(out: &mut impl Write, yes: bool) -> io::Result<()> {
     if yes {
-        exchange::say(1);
+        exchange::say(out, 1)
     } else {
-        exchange::say(0);
+        exchange::say(out, 0)
     }
 }
 
-pub(crate) fn part(s: &[u8], ends: &[u32], i: usize) {
+pub(crate) fn part(out: &mut impl Write, s: &[u8], ends: &[u32], i: usize) -> io::Result<()> {
     if offsets::is_cut(s, ends) {
-        exchange::say(1);
-        exchange::say_bytes(offsets::part(s, ends, i));
+        exchange::say(out, 1)?;
+        exchange::say_bytes(out, offsets::part(s, ends, i))
     } else {
-        exchange::say(0);
+        exchange::say(out, 0)
     }
 }
 
-fn say_column(s: &[u8], ends: &[u32], name: &[u8]) {
+fn say_column(out: &mut impl Write, s: &[u8], ends: &[u32], name: &[u8]) -> io::Result<()> {
     match offsets::column_of(s, ends, name) {
-        Column::At(i) => exchange::say(i as u64),
-        Column::Unknown => exchange::say_nothing(),
+        Column::At(i) => exchange::say(out, i as u64),
+        Column::Unknown => exchange::say_nothing(out),
     }
 }
 
-pub(crate) fn names(s: &[u8], ends: &[u32], name: &[u8]) {
-    say_flag(offsets::are_names(s, ends));
+pub(crate) fn names(out: &mut impl Write, s: &[u8], ends: &[u32], name: &[u8]) -> io::Result<()> {
+    say_flag(out, offsets::are_names(s, ends))?;
     if offsets::is_cut(s, ends) {
-        say_column(s, ends, name);
+        say_column(out, s, ends, name)?;
     }
+    Ok(())
 }
 
-fn say_folded(s: &[u8]) {
+fn say_folded(out: &mut impl Write, s: &[u8]) -> io::Result<()> {
     let mut i: usize = 0;
     while i < s.len() {
-        exchange::say_byte(tokenizer::folded(s[i]));
+        exchange::say_byte(out, tokenizer::folded(s[i]))?;
         i += 1;
     }
-    exchange::say_nothing();
+    exchange::say_nothing(out)
 }
 
-fn say_place(kind: u64, start: usize, end: usize) {
-    exchange::say(kind);
-    exchange::say(start as u64);
-    exchange::say(end as u64);
+fn say_place(out: &mut impl Write, kind: u64, start: usize, end: usize) -> io::Result<()> {
+    exchange::say(out, kind)?;
+    exchange::say(out, start as u64)?;
+    exchange::say(out, end as u64)
 }
 
-fn say_word(s: &[u8], at: usize) {
+fn say_word(out: &mut impl Write, s: &[u8], at: usize) -> io::Result<()> {
     match tokenizer::next_word(s, at) {
-        Word::Found { start, end } => say_place(0, start, end),
-        Word::Overlong { start, end } => say_place(1, start, end),
-        Word::Nothing => exchange::say_nothing(),
+        Word::Found { start, end } => say_place(out, 0, start, end),
+        Word::Overlong { start, end } => say_place(out, 1, start, end),
+        Word::Nothing => exchange::say_nothing(out),
     }
 }
 
-pub(crate) fn word(text: &[u8], at: usize) {
-    say_word(text, at);
-    say_folded(text);
+pub(crate) fn word(out: &mut impl Write, text: &[u8], at: usize) -> io::Result<()> {
+    say_word(out, text, at)?;
+    say_folded(out, text)
 }

@@ -12,6 +12,8 @@ mod queries;
 mod searches;
 mod verdicts;
 
+use std::io::{self, BufReader, BufWriter, Read, Write};
+
 // What a case asks for, as in tests/case_writer.py; 0 ends the input.
 const READ: u64 = 1;
 
@@ -52,18 +54,26 @@ const MAX_ENDS: usize = 32;
 
 const MAX_SHORT: usize = 1024;
 
-fn answer_ground(kind: u64, n: u64, first: &[u8], first_ends: &[u32], short: &[u8]) {
+fn answer_ground(
+    out: &mut impl Write,
+    kind: u64,
+    n: u64,
+    first: &[u8],
+    first_ends: &[u32],
+    short: &[u8],
+) -> io::Result<()> {
     match kind {
-        READ => ground::read_number(short, n as usize),
-        SIZE => ground::number_size(n),
-        CUT => ground::part(first, first_ends, n as usize),
-        NAMES => ground::names(first, first_ends, short),
-        WORD => ground::word(short, n as usize),
-        _ => (),
+        READ => ground::read_number(out, short, n as usize),
+        SIZE => ground::number_size(out, n),
+        CUT => ground::part(out, first, first_ends, n as usize),
+        NAMES => ground::names(out, first, first_ends, short),
+        WORD => ground::word(out, short, n as usize),
+        _ => Ok(()),
     }
 }
 
 fn answer<'a>(
+    out: &mut impl Write,
     kind: u64,
     n: u64,
     m: u64,
@@ -71,43 +81,48 @@ fn answer<'a>(
     first_ends: &[u32],
     second: &'a [u8],
     short: &[u8],
-) {
+) -> io::Result<()> {
     match kind {
-        CHECK => leaves::check(first, exchange::low_half(n)),
-        LOOKUP => leaves::look_up(first, exchange::low_half(n), short),
+        CHECK => leaves::check(out, first, exchange::low_half(n)),
+        LOOKUP => leaves::look_up(out, first, exchange::low_half(n), short),
         DECIDING => leaves::decide(
+            out,
             first,
             second,
             exchange::low_half(n),
             short,
             exchange::signed_of(m),
         ),
-        QUERY => queries::read(first, first_ends, short),
-        DOCUMENT => documents::write(exchange::signed_of(m), first, first_ends, n as usize),
-        _ => answer_ground(kind, n, first, first_ends, short),
+        QUERY => queries::read(out, first, first_ends, short),
+        DOCUMENT => documents::write(out, exchange::signed_of(m), first, first_ends, n as usize),
+        _ => answer_ground(out, kind, n, first, first_ends, short),
     }
 }
 
 // A case of WRITE has its room as the short field.
 fn with_short<'a>(
+    input: &mut impl Read,
+    out: &mut impl Write,
     kind: u64,
     n: u64,
     m: u64,
     first: &'a [u8],
     first_ends: &[u32],
     second: &'a [u8],
-) {
+) -> io::Result<()> {
     let mut short = [0u8; MAX_SHORT];
-    let size = exchange::field(&mut short);
+    let size = exchange::field(input, &mut short)?;
     if kind == WRITE {
-        ground::write_number(&mut short[0..size], n);
+        ground::write_number(out, &mut short[0..size], n)
     } else {
-        answer(kind, n, m, first, first_ends, second, &short[0..size]);
+        answer(out, kind, n, m, first, first_ends, second, &short[0..size])
     }
 }
 
 // A case of SEARCH, VERDICT, MERGE or MERGE_KEEPING has levels and indexes before the short field.
 fn with_pairs(
+    input: &mut impl Read,
+    out: &mut impl Write,
     kind: u64,
     n: u64,
     m: u64,
@@ -115,15 +130,16 @@ fn with_pairs(
     first_ends: &[u32],
     second: &[u8],
     second_ends: &[u32],
-) {
+) -> io::Result<()> {
     let mut levels = [0u32; MAX_ENDS];
-    let level_count = exchange::ends(&mut levels);
+    let level_count = exchange::ends(input, &mut levels)?;
     let mut indexes = [0u32; MAX_ENDS];
-    let index_count = exchange::ends(&mut indexes);
+    let index_count = exchange::ends(input, &mut indexes)?;
     let mut short = [0u8; MAX_SHORT];
-    let size = exchange::field(&mut short);
+    let size = exchange::field(input, &mut short)?;
     if MERGE <= kind {
-        merges::merge(
+        return merges::merge(
+            out,
             kind == MERGE_KEEPING,
             exchange::low_half(n),
             second,
@@ -132,10 +148,10 @@ fn with_pairs(
             &indexes[0..index_count],
             m as usize,
         );
-        return;
     }
     if kind == SEARCH {
         searches::search(
+            out,
             first,
             first_ends,
             second,
@@ -144,9 +160,11 @@ fn with_pairs(
             &indexes[0..index_count],
             &short[0..size],
             n as usize,
-        );
+        )
     } else {
         verdicts::verdict(
+            input,
+            out,
             exchange::signed_of(n),
             exchange::signed_of(m),
             first,
@@ -156,17 +174,27 @@ fn with_pairs(
             &levels[0..level_count],
             &indexes[0..index_count],
             &short[0..size],
-        );
+        )
     }
 }
 
-fn with_second(kind: u64, n: u64, m: u64, first: &[u8], first_ends: &[u32]) {
+fn with_second(
+    input: &mut impl Read,
+    out: &mut impl Write,
+    kind: u64,
+    n: u64,
+    m: u64,
+    first: &[u8],
+    first_ends: &[u32],
+) -> io::Result<()> {
     let mut second = [0u8; MAX_FIELD];
-    let size = exchange::field(&mut second);
+    let size = exchange::field(input, &mut second)?;
     let mut ends = [0u32; MAX_ENDS];
-    let count = exchange::ends(&mut ends);
+    let count = exchange::ends(input, &mut ends)?;
     if SEARCH <= kind {
         with_pairs(
+            input,
+            out,
             kind,
             n,
             m,
@@ -174,39 +202,42 @@ fn with_second(kind: u64, n: u64, m: u64, first: &[u8], first_ends: &[u32]) {
             first_ends,
             &second[0..size],
             &ends[0..count],
-        );
+        )
     } else {
-        with_short(kind, n, m, first, first_ends, &second[0..size]);
+        with_short(input, out, kind, n, m, first, first_ends, &second[0..size])
     }
 }
 
-fn with_first(kind: u64) {
-    let n = exchange::number();
-    let m = exchange::number();
+fn with_first(input: &mut impl Read, out: &mut impl Write, kind: u64) -> io::Result<()> {
+    let n = exchange::number(input)?;
+    let m = exchange::number(input)?;
     let mut first = [0u8; MAX_FIELD];
-    let size = exchange::field(&mut first);
+    let size = exchange::field(input, &mut first)?;
     let mut ends = [0u32; MAX_ENDS];
-    let count = exchange::ends(&mut ends);
-    with_second(kind, n, m, &first[0..size], &ends[0..count]);
+    let count = exchange::ends(input, &mut ends)?;
+    with_second(input, out, kind, n, m, &first[0..size], &ends[0..count])
 }
 
 // Answers one case; whether there was one.
-fn one_case() -> bool {
-    let kind = exchange::number();
+fn one_case(input: &mut impl Read, out: &mut impl Write) -> io::Result<bool> {
+    let kind = exchange::number(input)?;
     if kind == 0 {
-        return false;
+        return Ok(false);
     }
-    with_first(kind);
-    exchange::end_line();
-    true
+    with_first(input, out, kind)?;
+    exchange::end_line(out)?;
+    Ok(true)
 }
 
-fn main() {
+fn main(rt: HostRuntime) -> io::Result<()> {
+    let mut input = BufReader::new(rt.alloc(), rt.reader())?;
+    let mut out = BufWriter::new(rt.alloc(), io::writer(&rt))?;
     let mut i: usize = 0;
     while i < MAX_CASES {
-        if !one_case() {
-            return;
+        if !one_case(&mut input, &mut out)? {
+            return out.flush();
         }
         i += 1;
     }
+    out.flush()
 }

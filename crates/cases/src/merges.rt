@@ -2,26 +2,34 @@
 // is not 0.
 use crate::{documents, exchange};
 use merge::Answer;
+use std::io::{self, Write};
 
 // What the room holds beforehand.
 const OTHER: u8 = 165;
 
 const MAX_ROOM: usize = 65600;
 
-fn say_answer(number: u64, second: usize, level: u32, index: u32, room: &[u8]) {
-    exchange::say(number);
-    exchange::say(second as u64);
-    exchange::say(level as u64);
-    exchange::say(index as u64);
-    documents::say_room(number, second, room);
+fn say_answer(
+    out: &mut impl Write,
+    number: u64,
+    second: usize,
+    level: u32,
+    index: u32,
+    room: &[u8],
+) -> io::Result<()> {
+    exchange::say(out, number)?;
+    exchange::say(out, second as u64)?;
+    exchange::say(out, level as u64)?;
+    exchange::say(out, index as u64)?;
+    documents::say_room(out, number, second, room)
 }
 
-fn say_merge(answer: Answer, room: &[u8]) {
+fn say_merge(out: &mut impl Write, answer: Answer, room: &[u8]) -> io::Result<()> {
     match answer {
-        Answer::Written { size, level, index } => say_answer(0, size, level, index, room),
-        Answer::Shape => say_answer(1, 0, 0, 0, room),
-        Answer::Leaf(i) => say_answer(3, i, 0, 0, room),
-        Answer::Room(need) => say_answer(4, need, 0, 0, room),
+        Answer::Written { size, level, index } => say_answer(out, 0, size, level, index, room),
+        Answer::Shape => say_answer(out, 1, 0, 0, 0, room),
+        Answer::Leaf(i) => say_answer(out, 3, i, 0, 0, room),
+        Answer::Room(need) => say_answer(out, 4, need, 0, 0, room),
     }
 }
 
@@ -41,6 +49,7 @@ fn merged(
 }
 
 fn merge_in(
+    out: &mut impl Write,
     keep: bool,
     columns: u32,
     leaves: &[u8],
@@ -48,7 +57,7 @@ fn merge_in(
     levels: &[u32],
     indexes: &[u32],
     room: &mut [u8],
-) {
+) -> io::Result<()> {
     let answer = merged(
         keep,
         columns,
@@ -58,10 +67,11 @@ fn merge_in(
         indexes,
         &mut room[0..],
     );
-    say_merge(answer, room);
+    say_merge(out, answer, room)
 }
 
 pub(crate) fn merge(
+    out: &mut impl Write,
     keep: bool,
     columns: u32,
     leaves: &[u8],
@@ -69,10 +79,11 @@ pub(crate) fn merge(
     levels: &[u32],
     indexes: &[u32],
     size: usize,
-) {
+) -> io::Result<()> {
     let mut room = [OTHER; MAX_ROOM];
     if size <= MAX_ROOM {
         merge_in(
+            out,
             keep,
             columns,
             leaves,
@@ -80,6 +91,7 @@ pub(crate) fn merge(
             levels,
             indexes,
             &mut room[0..size],
-        );
+        )?;
     }
+    Ok(())
 }

@@ -2,71 +2,79 @@
 use crate::exchange;
 use lexer::Words;
 use query::{Ops, Query};
+use std::io::{self, Write};
 
 const REFUSED: u64 = 2;
 
 // The bytes of a text from one place to another, if they lie in it.
-fn say_part(text: &[u8], from: usize, to: usize) {
+fn say_part(out: &mut impl Write, text: &[u8], from: usize, to: usize) -> io::Result<()> {
     if text.len() < to {
-        return;
+        return Ok(());
     }
     if to < from {
-        return;
+        return Ok(());
     }
-    exchange::say_bytes(&text[from..to]);
+    exchange::say_bytes(out, &text[from..to])
 }
 
-fn say_word(words: Words, i: usize, from: usize) -> usize {
+fn say_word(out: &mut impl Write, words: Words, i: usize, from: usize) -> io::Result<usize> {
     if lexer::MAX_WORDS <= i {
-        return 0;
+        return Ok(0);
     }
     let to = words.ends[i] as usize;
-    exchange::say(words.ties[i] as u64);
-    exchange::say(words.distances[i] as u64);
-    exchange::say(words.columns[i] as u64);
-    exchange::say(words.marks[i] as u64);
+    exchange::say(out, words.ties[i] as u64)?;
+    exchange::say(out, words.distances[i] as u64)?;
+    exchange::say(out, words.columns[i] as u64)?;
+    exchange::say(out, words.marks[i] as u64)?;
     let text = words.text;
-    say_part(&text, from, to);
-    to
+    say_part(out, &text, from, to)?;
+    Ok(to)
 }
 
-fn say_words(words: Words) {
+fn say_words(out: &mut impl Write, words: Words) -> io::Result<()> {
     let n = words.count;
-    exchange::say(n as u64);
+    exchange::say(out, n as u64)?;
     let mut i: usize = 0;
     let mut from: usize = 0;
     while i < n {
-        from = say_word(words, i, from);
+        from = say_word(out, words, i, from)?;
         i += 1;
     }
+    Ok(())
 }
 
-fn say_ops(ops: Ops) {
+fn say_ops(out: &mut impl Write, ops: Ops) -> io::Result<()> {
     let n = ops.len;
-    exchange::say(n as u64);
+    exchange::say(out, n as u64)?;
     let mut i: usize = 0;
     while i < n {
         if i < query::MAX_CODES {
-            exchange::say(ops.codes[i] as u64);
+            exchange::say(out, ops.codes[i] as u64)?;
         }
         i += 1;
     }
+    Ok(())
 }
 
-fn say_query(q: Query) {
-    exchange::say(0);
+fn say_query(out: &mut impl Write, q: Query) -> io::Result<()> {
+    exchange::say(out, 0)?;
     let words = q.words;
-    say_words(words);
+    say_words(out, words)?;
     let ops = q.ops;
-    say_ops(ops);
+    say_ops(out, ops)
 }
 
-pub(crate) fn read(names: &[u8], ends: &[u32], text: &[u8]) {
+pub(crate) fn read(
+    out: &mut impl Write,
+    names: &[u8],
+    ends: &[u32],
+    text: &[u8],
+) -> io::Result<()> {
     let r = query::read(names, ends, text);
     if r.ok {
         let q = r.query;
-        say_query(q);
+        say_query(out, q)
     } else {
-        exchange::say(REFUSED);
+        exchange::say(out, REFUSED)
     }
 }

@@ -6,6 +6,7 @@ ghost use Rattle.cases.specs.Rooms.{nonzero, others};
 use crate::exchange;
 use doclist::keys;
 use search::Answer;
+use std::io::{self, Write};
 
 // What the room holds beforehand.
 const OTHER: i64 = -77;
@@ -37,14 +38,15 @@ fn second(answer: Answer) -> usize
 }
 
 // The docids, each as its 64 bits.
-pub(crate) fn say_docids(room: &[i64], n: usize) {
+pub(crate) fn say_docids(out: &mut impl Write, room: &[i64], n: usize) -> io::Result<()> {
     let mut i: usize = 0;
     while i < n {
         if i < room.len() {
-            exchange::say(keys::bits_of(keys::key_of(room[i])));
+            exchange::say(out, keys::bits_of(keys::key_of(room[i])))?;
         }
         i += 1;
     }
+    Ok(())
 }
 
 // 1 where a number is not 0, else 0.
@@ -71,22 +73,23 @@ fn others(room: &[i64], from: usize) -> usize
 }
 
 // The docids listed, and the numbers after them.
-fn say_room(number: u64, second: usize, room: &[i64]) {
+fn say_room(out: &mut impl Write, number: u64, second: usize, room: &[i64]) -> io::Result<()> {
     if number == 0 {
-        say_docids(room, second);
-        exchange::say(others(room, second) as u64);
+        say_docids(out, room, second)?;
+        exchange::say(out, others(room, second) as u64)
     } else {
-        exchange::say(others(room, 0) as u64);
+        exchange::say(out, others(room, 0) as u64)
     }
 }
 
-fn say_answer(number: u64, second: usize, room: &[i64]) {
-    exchange::say(number);
-    exchange::say(second as u64);
-    say_room(number, second, room);
+fn say_answer(out: &mut impl Write, number: u64, second: usize, room: &[i64]) -> io::Result<()> {
+    exchange::say(out, number)?;
+    exchange::say(out, second as u64)?;
+    say_room(out, number, second, room)
 }
 
 fn search_in(
+    out: &mut impl Write,
     names: &[u8],
     name_ends: &[u32],
     leaves: &[u8],
@@ -95,7 +98,7 @@ fn search_in(
     indexes: &[u32],
     query: &[u8],
     room: &mut [i64],
-) {
+) -> io::Result<()> {
     let answer = search::search(
         names,
         name_ends,
@@ -106,10 +109,11 @@ fn search_in(
         query,
         &mut room[0..],
     );
-    say_answer(number(answer), second(answer), room);
+    say_answer(out, number(answer), second(answer), room)
 }
 
 pub(crate) fn search(
+    out: &mut impl Write,
     names: &[u8],
     name_ends: &[u32],
     leaves: &[u8],
@@ -118,10 +122,11 @@ pub(crate) fn search(
     indexes: &[u32],
     query: &[u8],
     size: usize,
-) {
+) -> io::Result<()> {
     let mut room = [OTHER; MAX_ROOM];
     if size <= MAX_ROOM {
         search_in(
+            out,
             names,
             name_ends,
             leaves,
@@ -130,6 +135,7 @@ pub(crate) fn search(
             indexes,
             query,
             &mut room[0..size],
-        );
+        )?;
     }
+    Ok(())
 }

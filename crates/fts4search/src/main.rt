@@ -6,8 +6,10 @@
 ghost use Rattle.std.specs.Prelude.{◌≤◌, length};
 
 use doclist::keys;
-use libc::{STDIN_FILENO, STDOUT_FILENO};
 use search::Answer;
+use std::fs;
+use std::io::{self, Read};
+use std::rt::Files;
 
 const MAX_QUERY: usize = 512;
 
@@ -29,16 +31,14 @@ struct Input {
 }
 
 // Reads until the buffer is full or the input ends.
-fn read_input(fd: i32, buf: &mut [u8]) -> Input
+fn read_input(from: &mut impl Read, buf: &mut [u8]) -> Input
     ensures { result.size ≤ length buf.old }
 {
     let mut n: usize = 0;
     while n < buf.len() {
-        let got = libc::read(fd, &mut buf[n..]);
-        if got < 0 {
+        let Ok(more) = from.read(&mut buf[n..]) else {
             return Input { ok: false, size: 0 };
-        }
-        let more = io::count(got, &buf[n..]);
+        };
         if more == 0 {
             break;
         }
@@ -48,60 +48,54 @@ fn read_input(fd: i32, buf: &mut [u8]) -> Input
 }
 
 // Reads the leaf's file.
-fn read_leaf(buf: &mut [u8]) -> Input
+fn read_leaf(rt: &impl Files, buf: &mut [u8]) -> Input
     ensures { result.size ≤ length buf.old }
 {
-    let fd = os::open_read(b"leaf0.bin");
-    if fd < 0 {
+    let Ok(mut file) = fs::open(rt, "leaf0.bin") else {
         return Input { ok: false, size: 0 };
-    }
-    let input = read_input(fd, buf);
-    libc::close(fd);
-    input
+    };
+    read_input(&mut file, buf)
 }
 
 // A number and a line's end.
-fn line(n: u64) {
-    io::print_decimal(STDOUT_FILENO, n);
-    io::write_all(STDOUT_FILENO, b"\n");
+fn line(rt: &impl Print, n: u64) -> io::Result<()> {
+    println!(rt; "{n}")
 }
 
-fn refused(number: u64, beside: usize) {
-    io::write_all(STDOUT_FILENO, b"refused ");
-    io::print_decimal(STDOUT_FILENO, number);
-    io::write_all(STDOUT_FILENO, b" ");
-    line(beside as u64);
+fn refused(rt: &impl Print, number: u64, beside: usize) -> io::Result<()> {
+    print!(rt; "refused {number} ")?;
+    line(rt, beside as u64)
 }
 
 // A docid and a line's end.
-fn docid_line(docid: i64) {
+fn docid_line(rt: &impl Print, docid: i64) -> io::Result<()> {
     let key = keys::key_of(docid);
     if keys::ZERO_KEY <= key {
-        line(key - keys::ZERO_KEY);
-        return;
+        return line(rt, key - keys::ZERO_KEY);
     }
-    io::write_all(STDOUT_FILENO, b"-");
-    line(keys::ZERO_KEY - key);
+    print!(rt; "-")?;
+    line(rt, keys::ZERO_KEY - key)
 }
 
 // The first docids of the room, each on a line.
-fn list(room: &[i64], n: usize) {
+fn list(rt: &impl Print, room: &[i64], n: usize) -> io::Result<()> {
     let mut i: usize = 0;
     while i < n {
         if i < room.len() {
-            docid_line(room[i]);
+            docid_line(rt, room[i])?;
         }
         i += 1;
     }
+    Ok(())
 }
 
-fn found(room: &[i64], n: usize) {
-    io::write_all(STDOUT_FILENO, b"docs ");
-    line(n as u64);
-    list(room, n);
+fn found(rt: &impl Print, room: &[i64], n: usize) -> io::Result<()> {
+    print!(rt; "docs ")?;
+    line(rt, n as u64)?;
+    list(rt, room, n)
 }
 
-fn answer(leaf: &[u8], size: u32, query: &[u8]) {
+fn answer(rt: &impl Print, leaf: &[u8], size: u32, query: &[u8]) -> io::Result<()> {
     let name_ends = [4u32, 8, 15];
     let leaf_ends = [size];
     // One leaf alone: its level and index decide nothing.
@@ -118,38 +112,35 @@ fn answer(leaf: &[u8], size: u32, query: &[u8]) {
         query,
         &mut room,
     ) {
-        Answer::Found(n) => found(&room, n),
-        Answer::Shape => refused(1, 0),
-        Answer::Query => refused(2, 0),
-        Answer::Leaf(i) => refused(3, i),
-        Answer::Room(n) => refused(4, n),
+        Answer::Found(n) => found(rt, &room, n),
+        Answer::Shape => refused(rt, 1, 0),
+        Answer::Query => refused(rt, 2, 0),
+        Answer::Leaf(i) => refused(rt, 3, i),
+        Answer::Room(n) => refused(rt, 4, n),
     }
 }
 
 // The leaf's size comes first, then the query's. A query that couldn't be read is an empty one, which is refused as such.
-fn answer_sized(leaf: &[u8], query: &[u8]) {
+fn answer_sized(rt: &impl Print, leaf: &[u8], query: &[u8]) -> io::Result<()> {
     let size = leaf.len();
     if MAX_LEAF < size {
-        refused(1, 0);
-        return;
+        return refused(rt, 1, 0);
     }
     if MAX_QUERY < query.len() {
-        refused(2, 0);
-        return;
+        return refused(rt, 2, 0);
     }
-    answer(leaf, size as u32, query);
+    answer(rt, leaf, size as u32, query)
 }
 
-fn main() {
+fn main(rt: HostRuntime) -> io::Result<()> {
     let mut query = [0u8; QUERY_BUFFER];
-    let asked = read_input(STDIN_FILENO, &mut query);
+    let asked = read_input(&mut rt.reader(), &mut query);
     let mut leaf = [0u8; LEAF_BUFFER];
-    let stored = read_leaf(&mut leaf);
+    let stored = read_leaf(&rt, &mut leaf);
     if !stored.ok {
-        io::write_all(STDOUT_FILENO, b"no leaf\n");
-        return;
+        return println!(rt; "no leaf");
     }
     let n = stored.size;
     let q = asked.size;
-    answer_sized(&leaf[0..n], &query[0..q]);
+    answer_sized(&rt, &leaf[0..n], &query[0..q])
 }
