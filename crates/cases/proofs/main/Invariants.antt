@@ -1,6 +1,5 @@
 -- `main` is safe and ends: it answers at most a million cases.
-use Prim.Native.Nat.{◌-◌, ◌≤◌}
-use borrow.Author.Rules.{rules}
+use Rattle.std.proofs.Common.{◌-◌, ◌≤◌}
 use Rattle.cases.proofs.main.Given as goal
 
 abbrev pub invariant-loop-i : goal.invariant-loop-i
