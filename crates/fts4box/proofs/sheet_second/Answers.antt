@@ -2,6 +2,8 @@
 use mathlib.Core.Path.{◌≡◌, refl, sym, ap, ◌∙◌, subst}
 use lib.IntN.{ℤ}
 use mir.Facts.{to_z-of_z}
+use mir.Syntax.{w64}
+use mir.Val.{SFits}
 use borrow.Author.Rules.{rules}
 use Rattle.doclist.specs.Docid.{key_of}
 use Rattle.verdict.specs.Sheet.{RunRight, row_count}
@@ -31,4 +33,4 @@ pub returns-in-Room : goal.returns-in-Room
 returns-in-Room c = second_stored _ c.in-Room.n _ _ c.signed_of-in-Room.ensures c.in-Room.is refl
 
 pub returns-in-Twice : goal.returns-in-Twice
-returns-in-Twice c = to_z-of_z (record { sfits = c.known_told-in-Twice-1.given.0.1 }) ∙ sym (ap sheet_second c.in-Twice.is)
+returns-in-Twice c = let f : SFits w64 c.in-Twice.docid = search rules in to_z-of_z f ∙ sym (ap sheet_second c.in-Twice.is)
