@@ -13,7 +13,6 @@ use Rattle.common.proofs.Lists.{flatten_inside}
 use Rattle.tokenizer.specs.Word.{words_of}
 use Rattle.tokenizer.proofs.Folds.{words_fold}
 use Rattle.doclist.specs.Doclist.{Entry, NotEmpty}
-use Rattle.doclist.specs.Doclist as doclist
 use Rattle.leaf.specs.Leaf.{Term, Before, GoodTerm, Terms, WellFormed}
 use Rattle.leaf.proofs.Words.{before_some}
 use Rattle.document.specs.Document.{HasWordAt, all_words, distinct, positions_from, columns_from, document_term, document_terms, Writable, Posted, IsDocument}

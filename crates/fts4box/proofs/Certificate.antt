@@ -6,23 +6,21 @@ use mathlib.Core.Path.{◌≡◌, refl, sym, subst}
 use mathlib.Core.Bool.{true, false}
 use mathlib.Core.List.{List, [], ◌∷◌, ◌++◌, Memᴰ}
 use lib.IntN.{ℤ}
-use lib.ListN.{length, get_or}
+use lib.ListN.{get_or}
 use Rattle.common.specs.Bytes.{same}
 use Rattle.common.specs.Bounds.{max_word, max_columns}
 use Rattle.tokenizer.specs.Word.{is_word, fold}
-use Rattle.offsets.specs.Cut.{cut}
 use Rattle.offsets.specs.Names.{is_name_byte, ColumnIs}
-use Rattle.offsets.proofs.Cuts.{length_cut}
 use Rattle.doclist.specs.Docid.{key_of}
 use Rattle.lexer.specs.Token.{Token, only_column}
 use Rattle.lexer.specs.Token as token
-use Rattle.lexer.specs.Tokens.{is_space, is_run_byte, each, stops, is_operator, bytes_not, Stretch, one_word, RunToken, not_run, column_run, Tokens, end, space, run}
+use Rattle.lexer.specs.Tokens.{is_space, is_run_byte, each, stops, is_operator, bytes_not, Stretch, one_word, not_run, column_run, Tokens, end, space, run}
 use Rattle.query.specs.Grammar.{Reads, chain, single, not}
-use Rattle.search.specs.Search.{ShapeRight, IsQuery, Searchable, column_names}
+use Rattle.search.specs.Search.{IsQuery, Searchable, column_names}
 use Rattle.verdict.specs.Sheet.{Handed, asked, RunRight, numbers_of, Sheeted}
 use Rattle.verdict.specs.declared.Sheet.{Sheet}
 use Rattle.verdict.proofs.Corollaries.{certificate, certificate_seven}
-use Rattle.fts4box.specs.Certificate.{outcome, reply, timeout, in_outcome, silent_text, pass_text, word_in, silent_tree, pass_tree}
+use Rattle.fts4box.specs.Certificate.{outcome, reply, timeout, silent_text, pass_text, word_in, silent_tree, pass_tree}
 
 -- ---- how the queries are read
 

@@ -1,15 +1,15 @@
 -- A keeping merge of neighbours replaces, in the index newest first, leaves that stand side by side by one (`keeps_joins`), so that any number of them
 -- regroups the index (`kept_regrouped`). The newest pair stays the newest (`kept_newest`), and no two pairs become the same (`kept_distinct`).
-use Prim.Native.Nat.{ℕ, zero, suc, ◌<◌}
+use Prim.Native.Nat.{ℕ, ◌<◌}
 use native.Mathlib.Omega.{arith}
-use mathlib.Core.Path.{◌≡◌, refl, sym, ap, ap₂, ◌∙◌, subst}
+use mathlib.Core.Path.{◌≡◌, refl, sym, ap, ◌∙◌, subst}
 use mathlib.Core.Bool.{true}
-use mathlib.Core.Logic.{◌⊎◌, inl, inr, ⊎_elim}
+use mathlib.Core.Logic.{◌⊎◌, ⊎_elim}
 use mathlib.Core.List.Memᴰ
 use mathlib.Core.List.Permᴰ
 use mathlib.Core.List.{List, [], ◌∷◌, ◌++◌, map, Memᴰ, Permᴰ, append_assoc}
-use lib.ListN.{length, length-append, length-map}
-use Rattle.common.proofs.Members.{Rise, rise_parts, rise_at, at_rise}
+use lib.ListN.{length, length-map}
+use Rattle.common.proofs.Members.{rise_parts, rise_at, at_rise}
 use Rattle.directory.specs.Age.{Pair, Newer, pair_at, Distinct, ByAge, Lent, lent, NewestFirst}
 use Rattle.directory.proofs.Permutations.{perm_member, perm_map, perm_length}
 use Rattle.directory.proofs.Ages.{newer_never, newer_trans, newest_one, perm_distinct}
@@ -24,7 +24,7 @@ use Rattle.merged.proofs.Finding.{some_not_none, leaf_here, term_some}
 use Rattle.merged.proofs.Indexes.{leaves_good}
 use Rattle.merged.proofs.Kept.{keeping_keeps}
 use Rattle.merge.specs.Merge.{NewestPair}
-use Rattle.grouping.specs.Grouping.{DatedLeaf, pairs_of, bytes_of, MakeUp, Writes, NewerThanAll, OlderThanAll, KeepsTo, KeptTo, as_they_were, one_more}
+use Rattle.grouping.specs.Grouping.{DatedLeaf, pairs_of, bytes_of, MakeUp, NewerThanAll, OlderThanAll, KeepsTo, KeptTo, as_they_were, one_more}
 use Rattle.grouping.proofs.Neighbours.{map_append, newest_append, Parted, parted}
 use Rattle.grouping.proofs.Written.{LeafOf, WritesTerms, writes_index, writes_some, writes_terms, left_index}
 

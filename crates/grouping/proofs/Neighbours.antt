@@ -1,15 +1,14 @@
 -- Lists by age one after the other (`newest_append`), and the leaves about some neighbours (`parted`).
-use Prim.Native.Nat.{ℕ, suc, ◌<◌}
 use native.Mathlib.Omega.{arith}
 use mathlib.Core.Path.{◌≡◌, refl, sym, ap, ap₂, ◌∙◌, subst}
-use mathlib.Core.Logic.{◌⊎◌, inl, inr, ⊎_elim}
+use mathlib.Core.Logic.{⊎_elim}
 use mathlib.Core.List.Memᴰ
 use mathlib.Core.List.Permᴰ
-use mathlib.Core.List.{List, [], ◌∷◌, ◌++◌, map, Memᴰ, Permᴰ, append_assoc}
-use lib.ListN.{length, length-append}
-use Rattle.common.proofs.Members.{Rise, rise_append, rise_parts, rise_map, map_rise}
-use Rattle.directory.specs.Age.{Pair, Newer, Distinct, ByAge, Lent, lent, NewestFirst}
-use Rattle.directory.proofs.Permutations.{perm_member, perm_map}
+use mathlib.Core.List.{List, [], ◌∷◌, ◌++◌, map, Memᴰ, Permᴰ}
+use lib.ListN.{length}
+use Rattle.common.proofs.Members.{rise_append, rise_map, map_rise}
+use Rattle.directory.specs.Age.{Pair, Newer, Lent, lent, NewestFirst}
+use Rattle.directory.proofs.Permutations.{perm_member}
 use Rattle.directory.proofs.Ages.{age_rise, rise_age}
 use Rattle.grouping.specs.Grouping.{DatedLeaf, NewerThanAll, OlderThanAll, Neighbours}
 

@@ -3,21 +3,19 @@
 -- search lists the same before and after (`kept_searches`).
 use Prim.Native.Nat.{ℕ}
 use native.Mathlib.Omega.{arith}
-use mathlib.Core.Path.{◌≡◌, refl, sym, ap, ap₂, ◌∙◌, subst}
+use mathlib.Core.Path.{◌≡◌, sym, ap, ap₂, ◌∙◌, subst}
 use mathlib.Core.Bool.{Bool, true}
 use mathlib.Core.Logic.{inl, inr, ⊎_elim}
 use mathlib.Core.List.Memᴰ
 use mathlib.Core.List.Permᴰ
-use mathlib.Core.List.{List, [], ◌∷◌, ◌++◌, Memᴰ, Permᴰ, append_assoc, append-nil}
+use mathlib.Core.List.{List, [], ◌∷◌, ◌++◌, Permᴰ, append_assoc}
 use lib.IntN.{ℤ}
 use lib.ListN.{length}
-use Rattle.common.proofs.Lists.{no_element}
-use Rattle.directory.specs.Age.{Pair, Newer}
+use Rattle.directory.specs.Age.{Pair}
 use Rattle.leaf.specs.Leaf.{Term, encode_leaf, AreLeaves}
 use Rattle.meaning.specs.Index.{MaybeEntry, decided_positions}
 use Rattle.search.specs.Search as search
 use Rattle.search.specs.declared.Answer.{Answer}
-use Rattle.merged.specs.Merged.{Merged}
 use Rattle.merged.proofs.Once.{merged_one}
 use Rattle.merged.proofs.Grouping.{regrouped_decides, regrouped_merged, alone_same}
 use Rattle.merged.proofs.Searches.{searches_alike}
@@ -25,7 +23,7 @@ use Rattle.merge.specs.Merge.{NewestPair}
 use Rattle.merge.proofs.Order.{newest_pair_one}
 use Rattle.grouping.specs.Grouping.{DatedLeaf, pairs_of, MakeUp, Writes, KeptTo, as_they_were, one_more, LendsLeaves, SameQuestion}
 use Rattle.grouping.proofs.Neighbours.{newest_alone}
-use Rattle.grouping.proofs.Written.{LeafOf, WritesTerms, index_as, writes_index, writes_terms}
+use Rattle.grouping.proofs.Written.{LeafOf, index_as, writes_index, writes_terms}
 use Rattle.grouping.proofs.Keeping.{Before, before_both, made_split, made_join, kept_regrouped, kept_newest}
 
 -- ---- any grouping

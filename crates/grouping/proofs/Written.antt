@@ -1,25 +1,24 @@
 -- What a merge that was not refused wrote: the leaf of its terms with the newest pair, or no leaf (`writes_terms`).
-use Prim.Native.Nat.{ℕ, zero, suc, ◌<◌}
+use Prim.Native.Nat.{ℕ, ◌<◌}
 use native.Mathlib.Omega.{arith}
-use mathlib.Core.Path.{◌≡◌, refl, sym, ap, ap₂, ◌∙◌, subst}
-use mathlib.Core.Bool.{Bool, true}
+use mathlib.Core.Path.{◌≡◌, refl, sym, ap, ◌∙◌, subst}
+use mathlib.Core.Bool.{Bool}
 use mathlib.Core.Logic.{⊎_elim}
-use mathlib.Core.List.{List, [], ◌∷◌, Memᴰ}
+use mathlib.Core.List.{List, [], ◌∷◌}
 use lib.ListN.{length, take, length-map}
 use Rattle.offsets.proofs.Cuts.{length_cut}
 use borrow.Author.Tests.{eq-eqb, ne_eqb}
 use Rattle.common.specs.Refusals.{Numbers}
 use Rattle.common.proofs.Lists.{no_element}
-use Rattle.directory.specs.Age.{Pair, NewestFirst}
-use Rattle.leaf.specs.Leaf.{Term, WellFormed, encode_leaf, LeafIs}
+use Rattle.directory.specs.Age.{Pair}
+use Rattle.leaf.specs.Leaf.{Term, encode_leaf}
 use Rattle.document.specs.Document.{leaf_or_nothing}
-use Rattle.document.proofs.Reading.{some_bytes}
 use Rattle.search.specs.Search as search
 use Rattle.merged.specs.Merged.{Merged, index_of}
-use Rattle.merge.specs.Merge.{numbers_of, pair_of, Input, IndexIs, NewestPair}
+use Rattle.merge.specs.Merge.{numbers_of, pair_of, IndexIs, NewestPair}
 use Rattle.merge.specs.declared.Answer.{Answer}
 use Rattle.merge.proofs.Corollaries.{Mergeable, accepted_mergeable, size_is_length, written_leaf, holds_merge}
-use Rattle.grouping.specs.Grouping.{DatedLeaf, pairs_of, bytes_of, MakeUp, written_by, Writes}
+use Rattle.grouping.specs.Grouping.{DatedLeaf, pairs_of, MakeUp, written_by, Writes}
 use Rattle.grouping.proofs.Neighbours.{newest_alone, newest_none}
 
 -- the leaf of these terms, with the newest of these pairs; without a term no leaf

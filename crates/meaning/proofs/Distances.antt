@@ -6,7 +6,7 @@ use mathlib.Core.Logic.{◌↔◌, inl, inr, ⊎_elim}
 use mathlib.Core.List.{List, [], ◌∷◌}
 use Rattle.leaf.specs.Leaf.{Term}
 use Rattle.lexer.specs.Token.{Distance, bare, written}
-use Rattle.query.specs.Tree.{OR, AND, NOT, Link, Chain, Tree, leaf, joined}
+use Rattle.query.specs.Tree.{OR, AND, NOT, Link, Tree, leaf, joined}
 use Rattle.meaning.specs.Satisfies.{Standing, StandsAt, Occurrence, between, distance_with, NearbyWith, ChosenWith, HoldsWith, SatisfiesWith}
 use Rattle.meaning.specs.Written.{IsWritten, WrittenLinks, WrittenTree}
 use Rattle.meaning.specs.Index.{live}

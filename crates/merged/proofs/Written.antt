@@ -15,7 +15,7 @@ use Rattle.doclist.proofs.Entries.{entry_good}
 use Rattle.leaf.specs.Leaf.{Term, Before, GoodTerm, Terms, WellFormed}
 use Rattle.leaf.proofs.Words.{before_irrefl, before_trans}
 use Rattle.document.proofs.Only.{rising_rise}
-use Rattle.meaning.specs.Index.{MaybeEntry, entry, entry_for, deciding, positions_in, decided_positions, live}
+use Rattle.meaning.specs.Index.{MaybeEntry, entry_for, deciding, positions_in, decided_positions, live}
 use Rattle.merged.specs.Merged.{Merged, index_of}
 use Rattle.merged.specs.Totals.{total, position_count, columns_total, docids_total, words_total, WordsAre, DocidsAre, TotalIs, positions_written}
 use Rattle.merged.proofs.Finding.{column_found, column_none, columns_rise, columns_few, entry_found, entry_none, entries_rise, leaf_none, leaf_found, no_term, term_good, terms_rise}

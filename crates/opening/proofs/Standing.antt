@@ -1,6 +1,6 @@
 -- The groups tell where the query's words stand: at every docid, by the hits of the row, exactly where they stand by the live
 -- positions of the index (`row_law`). And a row is no larger than the groups' lists (`row_size`).
-use Prim.Native.Nat.{ℕ, ◌+◌, ◌-◌, ◌≤◌}
+use Prim.Native.Nat.{ℕ, ◌+◌, ◌≤◌}
 use native.Mathlib.Omega.{arith}
 use mathlib.Core.Path.{◌≡◌, refl, sym, ap, ◌∙◌, subst}
 use mathlib.Core.Logic.{◌↔◌, ⊎_elim}

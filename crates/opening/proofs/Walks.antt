@@ -1,11 +1,11 @@
 -- The walk over the leaves' words: what holds where no word is taken, and where the least one is.
 use Prim.Native.Nat.{ℕ, zero, suc, ◌+◌, ◌≤◌, ◌<◌}
 use native.Mathlib.Omega.{arith}
-use mathlib.Core.Path.{◌≡◌, refl, sym, ap, ◌∙◌, subst}
+use mathlib.Core.Path.{◌≡◌, refl, sym, subst}
 use mathlib.Core.Bool.{Bool, true, false}
 use mathlib.Core.Logic.{◌↔◌, inl}
-use mathlib.Core.List.{List, [], ◌∷◌, ◌++◌}
-use lib.ListN.{length, get_or, replicate, length-append}
+use mathlib.Core.List.{List, [], ◌∷◌}
+use lib.ListN.{length, replicate, length-append}
 use Rattle.common.specs.Bytes.{same}
 use Rattle.common.specs.Bounds.{max_index_bytes, max_leaves}
 use Rattle.common.proofs.Cases.{bool_case, false_refutes}

@@ -10,7 +10,7 @@ use lib.Dec.{eqb}
 use borrow.Author.Tests.{eqb-true, eq-eqb, ne_eqb}
 use Rattle.common.specs.Pick.{pick, both, either}
 use Rattle.lexer.specs.Token.{Token, lparen, kind_of, operand_kind, front_kind, after_front}
-use Rattle.lexer.specs.Lexing.{tokens, lex_of}
+use Rattle.lexer.specs.Lexing.{lex_of}
 use Rattle.lexer.specs.Looking.{look_at}
 use Rattle.lexer.specs.declared.Ahead.{Ahead}
 use Rattle.lexer.proofs.Places.{rest_of, look_front, look_moves, look_rest}

@@ -13,8 +13,7 @@ use Rattle.common.proofs.Lists.{map_at, map_append}
 use Rattle.tokenizer.specs.Word.{fold, Place, places, word_at}
 use Rattle.tokenizer.proofs.Folds.{word_length, word_byte}
 use Rattle.tokenizer.proofs.Runs.{place_is_run}
-use Rattle.offsets.specs.Cut.{ends_from, Cuts, cut_from}
-use Rattle.offsets.proofs.Cuts as cuts
+use Rattle.offsets.specs.Cut.{ends_from, cut_from}
 use Rattle.offsets.proofs.Cuts.{ends_step}
 use Rattle.document.specs.Document.{all_words}
 use Rattle.writer.specs.Rows.{row_of, row_column, row_position, row_key, row_word, place_rows, column_rows, rows_from}

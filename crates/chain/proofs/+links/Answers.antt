@@ -1,5 +1,4 @@
 use Rattle.std.proofs.Common.{ℕ, ◌+◌, get_or, false, subst}
-use borrow.Author.Tests.{not-true, not-false}
 use Rattle.chain.specs.Reaching.{source_of, Steps}
 use Rattle.chain.specs.Going.{Continues}
 use Rattle.chain.specs.declared.Window.{Window}

@@ -1,7 +1,6 @@
 -- `distance` meets its contract, test by test.
 use native.Mathlib.Omega.{arith}
 use borrow.Author.Tests.{ne_eqb, eq-eqb}
-use borrow.Author.Rules.{rules}
 use Rattle.chain.proofs.distance.Goals as goal
 
 pub returns-then-ties-at-eq-NEAR_BARE : goal.returns-then-ties-at-eq-NEAR_BARE

@@ -2,7 +2,6 @@
 use Prim.Native.Nat.{◌+◌}
 use native.Mathlib.Omega.{arith}
 use mathlib.Core.Path.{refl, sym, ◌∙◌}
-use borrow.Author.Rules.{rules}
 use Rattle.common.proofs.Cases.{split}
 use Rattle.chain.specs.Chains.{chain_end, ChainLengths}
 use Rattle.chain.proofs.Ends.{run_bounds}

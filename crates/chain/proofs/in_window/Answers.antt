@@ -2,7 +2,6 @@
 use Prim.Native.Nat.{◌+◌, ◌-◌, ◌≤◌}
 use native.Mathlib.Omega.{arith}
 use mathlib.Core.Path.{◌≡◌, refl, sym, ◌∙◌}
-use borrow.Author.Rules.{rules}
 use borrow.Author.Tests.{not-true, lt-ltb, le-ltb}
 use Rattle.common.proofs.Cases.{true_not_false}
 use Rattle.chain.specs.Reaching.{limit_of, left_out}

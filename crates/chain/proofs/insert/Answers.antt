@@ -1,10 +1,9 @@
-use Prim.Native.Nat.{ℕ, ◌≤◌}
+use Prim.Native.Nat.{ℕ}
 use native.Mathlib.Omega.{arith}
-use mathlib.Core.Path.{◌≡◌, refl, subst}
-use lib.ListN.{length, set, length-set}
+use mathlib.Core.Path.{refl, subst}
+use lib.ListN.{set, length-set}
 use Rattle.chain.specs.Keys.{Inserts}
-use Rattle.chain.proofs.Keys.{Shifted, shifted_none, shifted_more, least_of, inserts}
-use borrow.Author.Rules.{rules}
+use Rattle.chain.proofs.Keys.{shifted_none, shifted_more, least_of, inserts}
 use Rattle.chain.proofs.insert.Goals as goal
 
 pub loop-at-init : goal.loop-at-init

@@ -1,12 +1,9 @@
 -- `insert` meets its contract. The loop's invariant: the keys from `at` on are above the key, and are moved up by one
 -- (`Shifted`). The measure is `at`.
-use Prim.Native.Nat.{ℕ, ◌≤◌}
-use native.Mathlib.Omega.{arith}
-use mathlib.Core.Path.{◌≡◌, refl, subst}
-use lib.ListN.{length, set, length-set}
-use Rattle.chain.specs.Keys.{Inserts}
-use Rattle.chain.proofs.Keys.{Shifted, shifted_none, shifted_more, least_of, inserts}
-use borrow.Author.Rules.{rules}
+use Prim.Native.Nat.{◌≤◌}
+use mathlib.Core.Path.{◌≡◌}
+use lib.ListN.{length}
+use Rattle.chain.proofs.Keys.{Shifted}
 use Rattle.chain.proofs.insert.Given as goal
 
 abbrev pub invariant-loop-at : goal.invariant-loop-at

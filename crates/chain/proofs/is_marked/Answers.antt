@@ -2,7 +2,6 @@
 use Prim.Native.Nat.{◌%◌, ◌^◌}
 use native.Mathlib.Nat.{zero-div}
 use lib.ListN.{get_or-eq_default}
-use borrow.Author.Rules.{rules}
 use Rattle.chain.proofs.is_marked.Goals as goal
 
 pub returns-then-marks-at : goal.returns-then-marks-at

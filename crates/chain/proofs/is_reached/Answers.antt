@@ -3,7 +3,6 @@ use native.Mathlib.Omega.{arith}
 use mathlib.Core.Path.{sym, ◌∙◌}
 use borrow.Author.Tests.{not-true, not-false}
 use Rattle.chain.proofs.Marking.{told_old, told_not, told_in}
-use borrow.Author.Rules.{rules}
 use Rattle.common.proofs.Bits.{contains_below}
 use Rattle.chain.proofs.is_reached.Goals as goal
 

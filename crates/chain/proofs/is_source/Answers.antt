@@ -1,5 +1,4 @@
 -- `is_source` meets its contract: of the first word or not.
-use borrow.Author.Rules.{rules}
 use Rattle.chain.proofs.is_source.Goals as goal
 
 pub returns-then-first : goal.returns-then-first

@@ -1,8 +1,6 @@
-use Prim.Native.Nat.{◌+◌, ◌-◌, ◌/◌, ◌≤◌}
+use Prim.Native.Nat.{◌+◌, ◌-◌, ◌/◌}
 use native.Mathlib.Omega.{arith}
-use Rattle.chain.specs.Keys.{Ordered}
-use Rattle.chain.proofs.Keys.{Halving, halving_first, halving_up, halving_down, halving_done}
-use borrow.Author.Rules.{rules}
+use Rattle.chain.proofs.Keys.{halving_first, halving_up, halving_down, halving_done}
 use Rattle.chain.proofs.lower_bound.Goals as goal
 
 pub loop-low-init : goal.loop-low-init

@@ -1,10 +1,8 @@
 -- `lower_bound` meets its contract. The loop's invariant: the keys before `low` are below the key, those from `high` on are not
 -- (`Halving`). The measure is how many lie between.
-use Prim.Native.Nat.{◌+◌, ◌-◌, ◌/◌, ◌≤◌}
-use native.Mathlib.Omega.{arith}
+use Prim.Native.Nat.{◌-◌, ◌≤◌}
 use Rattle.chain.specs.Keys.{Ordered}
-use Rattle.chain.proofs.Keys.{Halving, halving_first, halving_up, halving_down, halving_done}
-use borrow.Author.Rules.{rules}
+use Rattle.chain.proofs.Keys.{Halving}
 use Rattle.chain.proofs.lower_bound.Given as goal
 
 abbrev pub invariant-loop-low : goal.invariant-loop-low

@@ -1,16 +1,9 @@
-use Prim.Native.Nat.{◌≤◌}
 use native.Mathlib.Omega.{arith}
-use mathlib.Core.Logic.{inl, inr, ⊎_elim}
+use mathlib.Core.Logic.{inl, inr}
 use mathlib.Core.Path.{◌≡◌, refl, ◌∙◌}
-use mathlib.Core.List.{List}
 use lib.ListN.{length}
-use Rattle.row.specs.Row.{Hit}
-use Rattle.row.specs.Walk.{left, SmallFound}
 use Rattle.row.proofs.Rows.{walk_falls, walk_small}
-use Rattle.chain.specs.Chains.{RowFits, mark_words}
-use Rattle.chain.specs.Keys.{Ordered}
-use Rattle.chain.proofs.Marking.{Marking, Holding, marking_first, marking_done, marking_full, marking_put}
-use borrow.Author.Rules.{rules}
+use Rattle.chain.proofs.Marking.{marking_first, marking_done, marking_full, marking_put}
 use Rattle.chain.proofs.mark.Goals as goal
 use Rattle.chain.proofs.mark.Goals.{then-some, else-some}
 

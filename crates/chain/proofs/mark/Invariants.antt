@@ -1,18 +1,14 @@
 -- `mark` meets its contract. The loop's invariant: the marks of the candidates that were passed tell which of them are reached
 -- (`Marking`). The measure is how far the walk still has to go.
 use Prim.Native.Nat.{◌≤◌}
-use native.Mathlib.Omega.{arith}
-use mathlib.Core.Logic.{inl, inr, ⊎_elim}
-use mathlib.Core.Path.{◌≡◌, refl, ◌∙◌}
+use mathlib.Core.Path.{◌≡◌}
 use mathlib.Core.List.{List}
 use lib.ListN.{length}
 use Rattle.row.specs.Row.{Hit}
 use Rattle.row.specs.Walk.{left, SmallFound}
-use Rattle.row.proofs.Rows.{walk_falls, walk_small}
 use Rattle.chain.specs.Chains.{RowFits, mark_words}
 use Rattle.chain.specs.Keys.{Ordered}
-use Rattle.chain.proofs.Marking.{Marking, Holding, marking_first, marking_done, marking_full, marking_put}
-use borrow.Author.Rules.{rules}
+use Rattle.chain.proofs.Marking.{Marking, Holding}
 use Rattle.chain.proofs.mark.Given as goal
 
 abbrev pub invariant-loop-found : goal.invariant-loop-found

@@ -1,6 +1,5 @@
 -- `operand_start` meets its contract: after NEAR an operand begins.
 use borrow.Author.Tests.{lt-ltb, le-ltb}
-use borrow.Author.Rules.{rules}
 use Rattle.chain.proofs.operand_start.Goals as goal
 
 pub returns-then-ties-end-gt-CONTINUES : goal.returns-then-ties-end-gt-CONTINUES

@@ -4,7 +4,6 @@ use mathlib.Core.Path.{sym, ◌∙◌}
 use mathlib.Core.Logic.{inl, inr}
 use borrow.Author.Tests.{not-true, not-false}
 use Rattle.chain.proofs.Stepping.{pushes_not, pushes_one}
-use borrow.Author.Rules.{rules}
 use Rattle.common.proofs.Bits.{contains_below}
 use Rattle.chain.proofs.push.Goals as goal
 

@@ -3,7 +3,6 @@ use Prim.Native.Nat.{◌/◌, ℕ}
 use mathlib.Core.Path.{sym, ap}
 use lib.Seq.{set_out}
 use lib.ListN.{set}
-use borrow.Author.Rules.{rules}
 use Rattle.chain.proofs.put_mark.Goals as goal
 
 pub returns-then-marks-at : goal.returns-then-marks-at

@@ -1,12 +1,8 @@
-use Prim.Native.Nat.{◌+◌, ◌-◌, ◌<◌}
 use native.Mathlib.Omega.{arith}
-use mathlib.Core.Path.{◌≡◌, sym, ◌∙◌}
-use lib.ListN.{length, drop}
-use borrow.Author.Rules.{rules}
-use Rattle.common.specs.Bytes.{within, span}
+use mathlib.Core.Path.{sym, ◌∙◌}
+use Rattle.common.specs.Bytes.{within}
 use Rattle.common.proofs.Runs.{past_end, past_stop, past_more}
 use Rattle.common.proofs.Numbers.{within_true, within_low, within_high}
-use Rattle.chain.specs.Chains.{run_end}
 use Rattle.chain.proofs.Ends.{run_outside, run_begins}
 use Rattle.chain.proofs.run_end.Goals as goal
 

@@ -1,15 +1,10 @@
 -- `run_end` meets its contract. The loop's invariant: what is left of the run, from the word `end` on, gives its end. The measure
 -- is the number of words that are left.
 use Prim.Native.Nat.{◌+◌, ◌-◌, ◌<◌}
-use native.Mathlib.Omega.{arith}
-use mathlib.Core.Path.{◌≡◌, sym, ◌∙◌}
+use mathlib.Core.Path.{◌≡◌}
 use lib.ListN.{length, drop}
-use borrow.Author.Rules.{rules}
 use Rattle.common.specs.Bytes.{within, span}
-use Rattle.common.proofs.Runs.{past_end, past_stop, past_more}
-use Rattle.common.proofs.Numbers.{within_true, within_low, within_high}
 use Rattle.chain.specs.Chains.{run_end}
-use Rattle.chain.proofs.Ends.{run_outside, run_begins}
 use Rattle.chain.proofs.run_end.Given as goal
 
 abbrev pub invariant-loop-end : goal.invariant-loop-end

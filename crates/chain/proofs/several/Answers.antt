@@ -6,7 +6,6 @@ use lib.Seq.{length-take-le}
 use Rattle.common.proofs.Frames.{kept_lent}
 use Rattle.chain.specs.Chains.{mark_words, MarkRoom}
 use Rattle.chain.proofs.Chaining.{decides_several}
-use borrow.Author.Rules.{rules}
 use Rattle.chain.proofs.several.Goals as goal
 
 pub slice_bounds-links-end-2 : goal.slice_bounds-links-end-2

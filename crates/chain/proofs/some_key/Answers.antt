@@ -1,6 +1,5 @@
 -- `some_key` meets its contract, test by test.
 use Rattle.chain.proofs.Keys.{some_empty, some_below, some_above, some_behind, some_here}
-use borrow.Author.Rules.{rules}
 use Rattle.chain.proofs.some_key.Goals as goal
 
 pub returns-then-count-eq0 : goal.returns-then-count-eq0

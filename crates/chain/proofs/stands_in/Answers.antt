@@ -1,10 +1,6 @@
 use mathlib.Core.Path.{sym, ◌∙◌}
-use mathlib.Core.List.{List}
-use borrow.Author.Rules.{rules}
-use Rattle.row.specs.Row.{Hit}
-use Rattle.row.specs.Walk.{WholeRow, left}
 use Rattle.row.proofs.Rows.{walk_falls}
-use Rattle.chain.proofs.Walks.{SeekingColumn, seeking_first, seeking_done, seeking_here, seeking_next}
+use Rattle.chain.proofs.Walks.{seeking_first, seeking_done, seeking_here, seeking_next}
 use Rattle.chain.proofs.stands_in.Goals as goal
 
 pub loop-found-init : goal.loop-found-init

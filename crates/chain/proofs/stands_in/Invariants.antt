@@ -1,12 +1,9 @@
 -- `stands_in` meets its contract. The loop's invariant: what is ahead decides (`SeekingColumn`). The measure is how far the walk still
 -- has to go.
-use mathlib.Core.Path.{sym, ◌∙◌}
 use mathlib.Core.List.{List}
-use borrow.Author.Rules.{rules}
 use Rattle.row.specs.Row.{Hit}
 use Rattle.row.specs.Walk.{WholeRow, left}
-use Rattle.row.proofs.Rows.{walk_falls}
-use Rattle.chain.proofs.Walks.{SeekingColumn, seeking_first, seeking_done, seeking_here, seeking_next}
+use Rattle.chain.proofs.Walks.{SeekingColumn}
 use Rattle.chain.proofs.stands_in.Given as goal
 
 abbrev pub invariant-loop-found : goal.invariant-loop-found

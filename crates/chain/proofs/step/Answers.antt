@@ -3,17 +3,14 @@ use native.Mathlib.Omega.{arith}
 use mathlib.Core.Bool.{false}
 use mathlib.Core.Path.{◌≡◌, refl, sym, ap, ◌∙◌, subst}
 use mathlib.Core.List.{List}
-use lib.ListN.{length, get_or, drop, length-take, length-drop}
+use lib.ListN.{length, drop, length-take, length-drop}
 use Rattle.common.proofs.Rooms.{back_length, back_part, back_before}
-use Rattle.row.specs.Row.{Hit}
-use Rattle.row.specs.Walk.{left, SmallFound}
 use Rattle.row.proofs.Rows.{walk_falls, walk_small}
-use Rattle.chain.specs.Chains.{RowFits, bit_words, mark_words}
+use Rattle.chain.specs.Chains.{bit_words}
 use Rattle.chain.specs.Keys.{Ordered}
 use Rattle.chain.specs.Reaching.{source_of}
 use Rattle.chain.proofs.Keys.{ordered_none}
 use Rattle.chain.proofs.Stepping.{keys_of, source_same, Stepping, stepping_first, stepping_flush, stepping_same, stepping_done, stepping_full, stepping_push}
-use borrow.Author.Rules.{rules}
 use Rattle.chain.proofs.step.Goals as goal
 use Rattle.chain.proofs.step.Goals.{then-keys-len, else-keys-len}
 

@@ -1,22 +1,15 @@
 -- `step` meets its contract. The loop's invariant: the marks of the word before stay, the sources that were passed are told by the
 -- new marks or are among the keys, and these are in order (`Stepping`). The measure is how far the walk still has to go.
-use Prim.Native.Nat.{ℕ, ◌+◌, ◌-◌, ◌≤◌, ◌<◌}
-use native.Mathlib.Omega.{arith}
-use mathlib.Core.Bool.{false}
-use mathlib.Core.Logic.{⊎_elim}
-use mathlib.Core.Path.{◌≡◌, refl, sym, ap, ◌∙◌, subst}
+use Prim.Native.Nat.{ℕ, ◌≤◌, ◌<◌}
+use mathlib.Core.Path.{◌≡◌}
 use mathlib.Core.List.{List}
-use lib.ListN.{length, get_or, drop, length-take, length-drop}
-use Rattle.common.proofs.Rooms.{back_length, back_part, back_before}
+use lib.ListN.{length, get_or}
 use Rattle.row.specs.Row.{Hit}
 use Rattle.row.specs.Walk.{left, SmallFound}
-use Rattle.row.proofs.Rows.{walk_falls, walk_small}
 use Rattle.chain.specs.Chains.{RowFits, bit_words, mark_words}
 use Rattle.chain.specs.Keys.{Ordered}
 use Rattle.chain.specs.Reaching.{source_of}
-use Rattle.chain.proofs.Keys.{ordered_none}
-use Rattle.chain.proofs.Stepping.{keys_of, source_same, Stepping, stepping_first, stepping_flush, stepping_same, stepping_done, stepping_full, stepping_push}
-use borrow.Author.Rules.{rules}
+use Rattle.chain.proofs.Stepping.{keys_of, Stepping}
 use Rattle.chain.proofs.step.Given as goal
 
 abbrev pub invariant-loop-found : goal.invariant-loop-found

@@ -1,5 +1,4 @@
 -- `was_marked` meets its contract: fresh marks count as clear.
-use borrow.Author.Rules.{rules}
 use Rattle.chain.proofs.was_marked.Goals as goal
 
 pub returns : goal.returns

@@ -3,7 +3,6 @@ use native.Mathlib.Omega.{arith}
 use borrow.Author.Tests.{eq-eqb}
 use Rattle.chain.proofs.Ends.{run_bounds}
 use Rattle.chain.proofs.Windows.{window_near}
-use borrow.Author.Rules.{rules}
 use Rattle.chain.proofs.window_at.Goals as goal
 
 pub returns-then-ties-end-eq-CONTINUES : goal.returns-then-ties-end-eq-CONTINUES

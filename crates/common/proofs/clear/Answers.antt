@@ -1,9 +1,8 @@
-use Prim.Native.Nat.{◌-◌, ◌≤◌}
 use native.Mathlib.Omega.{arith}
 use mathlib.Core.Path.{◌≡◌, ap, ◌∙◌}
-use mathlib.Core.List.{List, ◌++◌}
+use mathlib.Core.List.{List}
 use lib.IntN.{ℤ, pos}
-use lib.ListN.{length, drop, set, replicate}
+use lib.ListN.{length, set}
 use borrow.Author.Rules.{rules}
 use Rattle.common.proofs.Rooms.{fill_more, fill_all}
 use Rattle.common.proofs.clear.Goals as goal

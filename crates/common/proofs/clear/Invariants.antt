@@ -1,12 +1,9 @@
 -- `clear` meets its contract. The loop's invariant: the first `i` places are 0, and the others are as they were.
 use Prim.Native.Nat.{◌-◌, ◌≤◌}
-use native.Mathlib.Omega.{arith}
-use mathlib.Core.Path.{◌≡◌, ap, ◌∙◌}
-use mathlib.Core.List.{List, ◌++◌}
-use lib.IntN.{ℤ, pos}
-use lib.ListN.{length, drop, set, replicate}
-use borrow.Author.Rules.{rules}
-use Rattle.common.proofs.Rooms.{fill_more, fill_all}
+use mathlib.Core.Path.{◌≡◌}
+use mathlib.Core.List.{◌++◌}
+use lib.IntN.{pos}
+use lib.ListN.{length, drop, replicate}
 use Rattle.common.proofs.clear.Given as goal
 
 abbrev pub invariant-loop-i : goal.invariant-loop-i

@@ -1,8 +1,5 @@
-use Prim.Native.Nat.{◌-◌, ◌≤◌}
 use native.Mathlib.Omega.{arith}
-use mathlib.Core.Path.{◌≡◌, refl, sym, ◌∙◌}
-use lib.ListN.{length, drop}
-use Rattle.common.specs.Bytes.{same}
+use mathlib.Core.Path.{refl, sym, ◌∙◌}
 use Rattle.common.proofs.Same.{same_long, same_more, same_differs, same_end}
 use Rattle.common.proofs.is_same.Goals as goal
 

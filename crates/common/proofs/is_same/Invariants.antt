@@ -1,10 +1,8 @@
 -- `is_same` meets its contract. The invariant: both are equally long, and equal up to `i`.
 use Prim.Native.Nat.{◌-◌, ◌≤◌}
-use native.Mathlib.Omega.{arith}
-use mathlib.Core.Path.{◌≡◌, refl, sym, ◌∙◌}
+use mathlib.Core.Path.{◌≡◌}
 use lib.ListN.{length, drop}
 use Rattle.common.specs.Bytes.{same}
-use Rattle.common.proofs.Same.{same_long, same_more, same_differs, same_end}
 use Rattle.common.proofs.is_same.Given as goal
 
 abbrev pub invariant-loop-i : goal.invariant-loop-i

@@ -1,19 +1,16 @@
-use lib.ListN.{length-set, length, get_or, take}
+use lib.ListN.{length-set, get_or, take}
 use Rattle.common.specs.Bytes.{part}
 use Rattle.common.proofs.Cases.{false_not_true}
 use Rattle.common.proofs.Frames.{kept_all, kept_set}
 use borrow.Author.Tests.{not-true, not-false}
 use mathlib.Core.Path.{◌≡◌, refl, sym, ap, ◌∙◌, subst}
 use mathlib.Core.List.{List}
-use Prim.Native.Nat.{ℕ, ◌-◌, ◌*◌, ◌≤◌, ◌<◌, min}
+use Prim.Native.Nat.{ℕ, ◌*◌, ◌≤◌, ◌<◌, min}
 use native.Mathlib.Omega.{arith}
-use borrow.Author.Rules.{rules}
-use Rattle.common.specs.Frame.{KeptFrom}
-use Rattle.cursors.specs.Groups.{Group}
 use Rattle.cursors.specs.Frames.{other_than, RowNext, RowFrame}
 use Rattle.cursors.proofs.Others.{rest_passed, rest_joined}
-use Rattle.cursors.specs.Arrays.{least_of, next_of, block_size, blocks_of, MinimaAre, RowTaken}
-use Rattle.cursors.specs.Scanning.{Fits, Scanned}
+use Rattle.cursors.specs.Arrays.{least_of, next_of, block_size, MinimaAre, RowTaken}
+use Rattle.cursors.specs.Scanning.{Scanned}
 use Rattle.cursors.specs.declared.Scan.{Scan}
 use Rattle.cursors.specs.declared.Taken.{Taken}
 use Rattle.cursors.proofs.Framing.{frame_none, frame_others}

@@ -1,26 +1,15 @@
 -- `cursors::advance` meets its contract. The loop's invariant: the first `b` blocks are passed, and the least docid of each block
 -- is right.
-use lib.ListN.{length-set, length, get_or, take}
-use Rattle.common.specs.Bytes.{part}
-use Rattle.common.proofs.Cases.{false_not_true}
-use Rattle.common.proofs.Frames.{kept_all, kept_set}
-use borrow.Author.Tests.{not-true, not-false}
-use mathlib.Core.Path.{◌≡◌, refl, sym, ap, ◌∙◌, subst}
+use lib.ListN.{length, take}
+use mathlib.Core.Path.{◌≡◌}
 use mathlib.Core.List.{List}
-use Prim.Native.Nat.{ℕ, ◌-◌, ◌*◌, ◌≤◌, ◌<◌, min}
-use native.Mathlib.Omega.{arith}
-use borrow.Author.Rules.{rules}
+use Prim.Native.Nat.{◌-◌, ◌*◌, ◌≤◌, min}
 use Rattle.common.specs.Frame.{KeptFrom}
 use Rattle.cursors.specs.Groups.{Group}
-use Rattle.cursors.specs.Frames.{other_than, RowNext, RowFrame}
-use Rattle.cursors.proofs.Others.{rest_passed, rest_joined}
-use Rattle.cursors.specs.Arrays.{least_of, next_of, block_size, blocks_of, MinimaAre, RowTaken}
+use Rattle.cursors.specs.Frames.{other_than, RowFrame}
+use Rattle.cursors.specs.Arrays.{least_of, block_size, blocks_of, MinimaAre}
 use Rattle.cursors.specs.Scanning.{Fits, Scanned}
-use Rattle.cursors.specs.declared.Scan.{Scan}
-use Rattle.cursors.specs.declared.Taken.{Taken}
-use Rattle.cursors.proofs.Framing.{frame_none, frame_others}
-use Rattle.cursors.proofs.Blocks.{minima_set, least_passed, least_taken}
-use Rattle.cursors.proofs.Scanning.{ScanReady, scanned_start, scanned_lower, scanned_block, scanned_end}
+use Rattle.cursors.proofs.Scanning.{ScanReady}
 use Rattle.cursors.proofs.advance.Given as goal
 
 abbrev pub invariant-loop-from : goal.invariant-loop-from

@@ -2,7 +2,6 @@
 use native.Mathlib.Omega.{arith}
 use mathlib.Core.Path.{refl}
 use Rattle.common.proofs.Cases.{false_not_true}
-use borrow.Author.Rules.{rules}
 use Rattle.cursors.proofs.can_move.Goals as goal
 
 pub returns-then-docids-n : goal.returns-then-docids-n

@@ -3,7 +3,6 @@
 use Rattle.cursors.proofs.Bodies.{last_inside, stands_last, next_not_refused, next_here, span_inside}
 use mathlib.Core.Path.{sym, ◌∙◌}
 use native.Mathlib.Omega.{arith}
-use borrow.Author.Rules.{rules}
 use Rattle.cursors.proofs.entry_after.Goals as goal
 
 pub returns-then-to-from : goal.returns-then-to-from

@@ -1,11 +1,8 @@
 -- `cursors::has_docid` meets its contract.
 use Prim.Native.Nat.{◌-◌, ◌≤◌}
-use mathlib.Core.Path.{◌≡◌, refl, sym, ap, ◌∙◌}
-use native.Mathlib.Omega.{arith}
-use borrow.Author.Rules.{rules}
-use lib.ListN.{length, drop, drop_of_length-le}
+use mathlib.Core.Path.{◌≡◌}
+use lib.ListN.{length, drop}
 use Rattle.cursors.specs.Frames.{among}
-use Rattle.cursors.proofs.Framing.{among_here, among_next}
 use Rattle.cursors.proofs.has_docid.Given as goal
 
 abbrev pub invariant-loop-i : goal.invariant-loop-i

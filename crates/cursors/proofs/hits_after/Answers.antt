@@ -1,5 +1,4 @@
 -- `cursors::hits_after` meets its contract.
-use borrow.Author.Rules.{rules}
 use Rattle.cursors.proofs.hits_after.Goals as goal
 
 pub returns : goal.returns

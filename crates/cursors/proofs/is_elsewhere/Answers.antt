@@ -1,7 +1,6 @@
 -- `is_elsewhere` meets its contract, test by test.
 use native.Mathlib.Omega.{arith}
 use mathlib.Core.Path.{sym}
-use borrow.Author.Rules.{rules}
 use borrow.Author.Tests.{ne_eqb, eqb-false}
 use Rattle.common.proofs.Cases.{split, false_not_true}
 use Rattle.cursors.proofs.is_elsewhere.Goals as goal

@@ -1,5 +1,4 @@
 -- `cursors::is_hidden` meets its contract.
-use borrow.Author.Rules.{rules}
 use Rattle.cursors.proofs.is_hidden.Goals as goal
 
 pub returns-then-hidden : goal.returns-then-hidden

@@ -1,6 +1,5 @@
 -- `cursors::join` meets its contract.
 use mathlib.Core.Path.{refl}
-use borrow.Author.Rules.{rules}
 use Rattle.cursors.proofs.join.Goals as goal
 
 pub returns : goal.returns

@@ -5,7 +5,6 @@ use Rattle.cursors.specs.Arrays.{least_of, next_of}
 use mathlib.Core.Path.{◌≡◌, sym, ap, ◌∙◌}
 use Prim.Native.Nat.{ℕ, ◌-◌, ◌≤◌}
 use native.Mathlib.Omega.{arith}
-use borrow.Author.Rules.{rules}
 use lib.ListN.{length, take}
 use Rattle.cursors.proofs.least.Goals as goal
 

@@ -1,9 +1,6 @@
-use Prim.Native.Nat.{◌-◌, ◌≤◌}
 use native.Mathlib.Omega.{arith}
-use mathlib.Core.Path.{◌≡◌, refl, ◌∙◌, ap}
-use lib.ListN.{length, take}
+use mathlib.Core.Path.{refl, ◌∙◌, ap}
 use lib.Seq.{take_all}
-use borrow.Author.Rules.{rules}
 use Rattle.cursors.specs.Arrays.{least_of}
 use Rattle.cursors.proofs.Docids.{least_more}
 use Rattle.cursors.proofs.least_of.Goals as goal

@@ -1,12 +1,8 @@
 -- `cursors::least_of` meets its contract. The loop's invariant: `least` is the least of the docids passed.
 use Prim.Native.Nat.{◌-◌, ◌≤◌}
-use native.Mathlib.Omega.{arith}
-use mathlib.Core.Path.{◌≡◌, refl, ◌∙◌, ap}
+use mathlib.Core.Path.{◌≡◌}
 use lib.ListN.{length, take}
-use lib.Seq.{take_all}
-use borrow.Author.Rules.{rules}
 use Rattle.cursors.specs.Arrays.{least_of}
-use Rattle.cursors.proofs.Docids.{least_more}
 use Rattle.cursors.proofs.least_of.Given as goal
 
 abbrev pub invariant-loop-i : goal.invariant-loop-i

@@ -1,13 +1,11 @@
-use lib.ListN.{length-set, length, get_or}
+use lib.ListN.{length-set}
 use Rattle.common.specs.Bytes.{part}
 use Rattle.common.proofs.Frames.{kept_all, kept_set}
 use Rattle.cursors.proofs.Blocks.{minima_more}
 use mathlib.Core.Path.{◌≡◌, refl, ap, ◌∙◌}
-use Prim.Native.Nat.{ℕ, ◌-◌, ◌*◌, ◌≤◌, ◌<◌, min}
+use Prim.Native.Nat.{ℕ, ◌*◌}
 use native.Mathlib.Omega.{arith}
-use borrow.Author.Rules.{rules}
-use Rattle.common.specs.Frame.{KeptFrom}
-use Rattle.cursors.specs.Arrays.{least_of, block_size, blocks_of, block_of}
+use Rattle.cursors.specs.Arrays.{least_of, block_size}
 use Rattle.cursors.proofs.minima.Goals as goal
 
 pub returns-then-docids-n : goal.returns-then-docids-n

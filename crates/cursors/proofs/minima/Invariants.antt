@@ -1,12 +1,7 @@
 -- `cursors::minima` meets its contract. The loop's invariant: the least docids of the first `b` blocks are written.
-use lib.ListN.{length-set, length, get_or}
-use Rattle.common.specs.Bytes.{part}
-use Rattle.common.proofs.Frames.{kept_all, kept_set}
-use Rattle.cursors.proofs.Blocks.{minima_more}
-use mathlib.Core.Path.{◌≡◌, refl, ap, ◌∙◌}
+use lib.ListN.{length, get_or}
+use mathlib.Core.Path.{◌≡◌}
 use Prim.Native.Nat.{ℕ, ◌-◌, ◌*◌, ◌≤◌, ◌<◌, min}
-use native.Mathlib.Omega.{arith}
-use borrow.Author.Rules.{rules}
 use Rattle.common.specs.Frame.{KeptFrom}
 use Rattle.cursors.specs.Arrays.{least_of, block_size, blocks_of, block_of}
 use Rattle.cursors.proofs.minima.Given as goal

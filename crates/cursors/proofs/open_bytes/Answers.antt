@@ -1,10 +1,5 @@
-use Prim.Native.Nat.{◌-◌}
-use native.Mathlib.Omega.{arith}
-use mathlib.Core.Path.{◌≡◌, sym, ◌∙◌}
-use lib.ListN.{length}
-use borrow.Author.Rules.{rules}
-use Rattle.common.specs.Bytes.{span}
-use Rattle.common.proofs.Runs.{past, past_end, past_stop, past_more}
+use mathlib.Core.Path.{sym, ◌∙◌}
+use Rattle.common.proofs.Runs.{past_end, past_stop, past_more}
 use Rattle.cursors.specs.Arrays.{is_open}
 use Rattle.cursors.proofs.Bodies.{is_open_lem, not_open}
 use Rattle.cursors.proofs.open_bytes.Goals as goal

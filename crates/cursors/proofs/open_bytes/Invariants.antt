@@ -1,14 +1,11 @@
 -- `cursors::open_bytes` meets its contract. The loop's invariant: the run of bytes that are not 0 ends where the run from
 -- `i` on ends.
 use Prim.Native.Nat.{◌-◌}
-use native.Mathlib.Omega.{arith}
-use mathlib.Core.Path.{◌≡◌, sym, ◌∙◌}
+use mathlib.Core.Path.{◌≡◌}
 use lib.ListN.{length}
-use borrow.Author.Rules.{rules}
 use Rattle.common.specs.Bytes.{span}
-use Rattle.common.proofs.Runs.{past, past_end, past_stop, past_more}
+use Rattle.common.proofs.Runs.{past}
 use Rattle.cursors.specs.Arrays.{is_open}
-use Rattle.cursors.proofs.Bodies.{is_open_lem, not_open}
 use Rattle.cursors.proofs.open_bytes.Given as goal
 
 abbrev pub invariant-loop-i : goal.invariant-loop-i

@@ -1,6 +1,5 @@
 -- `cursors::over_hit` meets its contract.
 use mathlib.Core.Path.{refl}
-use borrow.Author.Rules.{rules}
 use Rattle.cursors.proofs.over_hit.Goals as goal
 
 pub returns : goal.returns

@@ -1,6 +1,5 @@
 -- `cursors::over_other` meets its contract.
 use mathlib.Core.Path.{refl}
-use borrow.Author.Rules.{rules}
 use Rattle.cursors.proofs.over_other.Goals as goal
 
 pub returns : goal.returns

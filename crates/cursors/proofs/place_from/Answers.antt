@@ -1,14 +1,6 @@
-use mathlib.Core.Path.{◌≡◌, refl}
-use mathlib.Core.List.{List}
-use Prim.Native.Nat.{◌-◌, ◌≤◌}
+use mathlib.Core.Path.{refl}
 use native.Mathlib.Omega.{arith}
-use borrow.Author.Rules.{rules}
-use lib.ListN.{length}
-use Rattle.common.specs.Bounds.{max_index_bytes}
-use Rattle.doclist.specs.Doclist.{Entry}
-use Rattle.cursors.specs.Groups.{last_key}
-use Rattle.cursors.specs.Arrays.{ListAt}
-use Rattle.cursors.proofs.Passing.{Remains, remains_next, remains_end}
+use Rattle.cursors.proofs.Passing.{remains_next, remains_end}
 use Rattle.cursors.proofs.place_from.Goals as goal
 
 pub loop-place-init : goal.loop-place-init

@@ -1,16 +1,14 @@
 -- `cursors::place_from` meets its contract. The loop's invariant: what is left of the list stands at `place`, and only entries before
 -- `rest` were passed.
-use mathlib.Core.Path.{◌≡◌, refl}
+use mathlib.Core.Path.{◌≡◌}
 use mathlib.Core.List.{List}
 use Prim.Native.Nat.{◌-◌, ◌≤◌}
-use native.Mathlib.Omega.{arith}
-use borrow.Author.Rules.{rules}
 use lib.ListN.{length}
 use Rattle.common.specs.Bounds.{max_index_bytes}
 use Rattle.doclist.specs.Doclist.{Entry}
 use Rattle.cursors.specs.Groups.{last_key}
 use Rattle.cursors.specs.Arrays.{ListAt}
-use Rattle.cursors.proofs.Passing.{Remains, remains_next, remains_end}
+use Rattle.cursors.proofs.Passing.{Remains}
 use Rattle.cursors.proofs.place_from.Given as goal
 
 abbrev pub invariant-loop-place : goal.invariant-loop-place

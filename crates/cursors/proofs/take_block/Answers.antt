@@ -1,14 +1,11 @@
-use lib.ListN.{length-set, length, get_or, set}
-use Rattle.cursors.specs.Scanning.{over_other, over_hit, joined, Fits, BlockTaken, Scanned}
+use lib.ListN.{length-set, get_or, set}
+use Rattle.cursors.specs.Scanning.{over_other, over_hit, joined, BlockTaken, Scanned}
 use Rattle.cursors.proofs.Blocks.{block_begun, block_other, block_hit}
 use Rattle.cursors.proofs.Scanning.{scanned_other, scanned_hit}
 use mathlib.Core.Path.{◌≡◌, refl, sym, ap, ◌∙◌, subst}
-use mathlib.Core.List.{List}
 use mathlib.Core.Bool.{Bool}
-use Prim.Native.Nat.{ℕ, ◌+◌, ◌-◌, ◌≤◌, ◌<◌, min}
+use Prim.Native.Nat.{ℕ, ◌+◌, ◌≤◌, ◌<◌, min}
 use native.Mathlib.Omega.{arith}
-use borrow.Author.Rules.{rules}
-use Rattle.cursors.specs.Groups.{Group}
 use Rattle.common.specs.Bytes.{part}
 use Rattle.common.proofs.Cases.{false_not_true}
 use Rattle.cursors.specs.Arrays.{StandsFor, least_of}

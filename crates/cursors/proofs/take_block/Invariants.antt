@@ -1,21 +1,13 @@
 -- `cursors::take_block` meets its contract. The loop's invariant: the cursors from `from` up to `i` are passed.
-use lib.ListN.{length-set, length, get_or, set}
-use Rattle.cursors.specs.Scanning.{over_other, over_hit, joined, Fits, BlockTaken, Scanned}
-use Rattle.cursors.proofs.Blocks.{block_begun, block_other, block_hit}
-use Rattle.cursors.proofs.Scanning.{scanned_other, scanned_hit}
-use mathlib.Core.Path.{◌≡◌, refl, sym, ap, ◌∙◌, subst}
+use lib.ListN.{length}
+use Rattle.cursors.specs.Scanning.{joined, Fits, BlockTaken, Scanned}
+use mathlib.Core.Path.{◌≡◌}
 use mathlib.Core.List.{List}
-use mathlib.Core.Bool.{Bool}
-use Prim.Native.Nat.{ℕ, ◌+◌, ◌-◌, ◌≤◌, ◌<◌, min}
-use native.Mathlib.Omega.{arith}
-use borrow.Author.Rules.{rules}
+use Prim.Native.Nat.{ℕ, ◌-◌, ◌≤◌}
 use Rattle.cursors.specs.Groups.{Group}
 use Rattle.common.specs.Bytes.{part}
-use Rattle.common.proofs.Cases.{false_not_true}
-use Rattle.cursors.specs.Arrays.{StandsFor, least_of}
+use Rattle.cursors.specs.Arrays.{least_of}
 use Rattle.cursors.specs.Frames.{RowFrame, other_than}
-use Rattle.cursors.proofs.Others.{rest_begun, rest_other, rest_hit}
-use Rattle.cursors.proofs.Framing.{frame_others, frame_hit}
 use Rattle.cursors.specs.declared.Scan.{Scan}
 use Rattle.cursors.proofs.take_block.Given as goal
 

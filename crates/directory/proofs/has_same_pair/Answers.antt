@@ -1,5 +1,4 @@
 -- `has_same_pair` meets its contract: levels first, then indexes.
-use borrow.Author.Rules.{rules}
 use Rattle.common.proofs.Cases.{false_not_true}
 use Rattle.directory.proofs.Placing.{level_same, pair_same}
 use Rattle.directory.proofs.has_same_pair.Goals as goal

@@ -1,8 +1,6 @@
-use Prim.Native.Nat.{◌≤◌}
 use native.Mathlib.Omega.{arith}
 use mathlib.Core.Path.{◌≡◌, refl, subst}
-use lib.ListN.{length, length-set}
-use borrow.Author.Rules.{rules}
+use lib.ListN.{length-set}
 use Rattle.directory.proofs.Inserting.{shifted, shifted_none, shifted_more, shifted_set}
 use Rattle.directory.proofs.insert.Goals as goal
 

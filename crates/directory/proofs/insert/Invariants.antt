@@ -1,10 +1,8 @@
 -- `insert` meets its contract. The invariant: the numbers from the place `i` up to the place `k` went one on.
 use Prim.Native.Nat.{◌≤◌}
-use native.Mathlib.Omega.{arith}
-use mathlib.Core.Path.{◌≡◌, refl, subst}
-use lib.ListN.{length, length-set}
-use borrow.Author.Rules.{rules}
-use Rattle.directory.proofs.Inserting.{shifted, shifted_none, shifted_more, shifted_set}
+use mathlib.Core.Path.{◌≡◌}
+use lib.ListN.{length}
+use Rattle.directory.proofs.Inserting.{shifted}
 use Rattle.directory.proofs.insert.Given as goal
 
 abbrev pub invariant-loop-i : goal.invariant-loop-i

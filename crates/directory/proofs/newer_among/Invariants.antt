@@ -1,12 +1,7 @@
 -- `newer_among` meets its contract. The invariant: the first `i` places have newer pairs.
 use Prim.Native.Nat.{ℕ, ◌-◌, ◌≤◌, ◌<◌}
-use native.Mathlib.Omega.{arith}
-use mathlib.Core.Path.{◌≡◌, subst}
 use lib.ListN.{get_or}
-use borrow.Author.Tests.{not-true, not-false}
-use Rattle.common.proofs.Cases.{split}
 use Rattle.directory.specs.Age.{Newer, pairs, pair_at}
-use Rattle.directory.proofs.Placing.{place_below, places_length, newer_told, not_newer_told}
 use Rattle.directory.proofs.newer_among.Given as goal
 
 abbrev pub invariant-loop-i : goal.invariant-loop-i

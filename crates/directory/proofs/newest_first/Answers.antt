@@ -1,10 +1,7 @@
-use Prim.Native.Nat.{◌-◌, ◌≤◌}
 use native.Mathlib.Omega.{arith}
 use mathlib.Core.Path.{◌≡◌, refl, sym, ◌∙◌, subst}
 use mathlib.Core.List.{[]}
-use lib.ListN.{length}
 use borrow.Author.Tests.{not-true, not-false}
-use Rattle.common.specs.Bounds.{max_leaves}
 use Rattle.directory.specs.Order.{PlacesAre}
 use Rattle.directory.proofs.Sorting.{sorted_none}
 use Rattle.directory.specs.Age.{pairs}

@@ -1,15 +1,9 @@
 -- `newest_first` meets its contract. The invariant: the first `k` numbers are in their places.
 use Prim.Native.Nat.{◌-◌, ◌≤◌}
-use native.Mathlib.Omega.{arith}
-use mathlib.Core.Path.{◌≡◌, refl, sym, ◌∙◌, subst}
-use mathlib.Core.List.{[]}
+use mathlib.Core.Path.{◌≡◌}
 use lib.ListN.{length}
-use borrow.Author.Tests.{not-true, not-false}
 use Rattle.common.specs.Bounds.{max_leaves}
 use Rattle.directory.specs.Order.{PlacesAre}
-use Rattle.directory.proofs.Sorting.{sorted_none}
-use Rattle.directory.specs.Age.{pairs}
-use Rattle.directory.proofs.Placing.{places_length, ordered_none, ordered_all}
 use Rattle.directory.proofs.newest_first.Given as goal
 
 abbrev pub invariant-loop-k : goal.invariant-loop-k

@@ -2,7 +2,6 @@
 use Prim.Native.Nat.{◌+◌}
 use native.Mathlib.Omega.{arith}
 use mathlib.Core.Path.{sym, ◌∙◌, subst}
-use borrow.Author.Rules.{rules}
 use Rattle.common.proofs.Cases.{false_not_true}
 use Rattle.directory.specs.Order.{PlacesAre}
 use Rattle.directory.proofs.Placing.{places_length, pair_taken, place_more}

@@ -1,8 +1,6 @@
 -- `announced` meets its contract: each number that is read decides how the reading goes on.
 use mathlib.Core.Path.{sym, ◌∙◌}
-use native.Mathlib.Omega.{arith}
 use borrow.Author.Tests.{lt-ltb, le-ltb, le-leb, lt-leb}
-use borrow.Author.Rules.{rules}
 use Rattle.doclist.proofs.announced.Goals as goal
 
 pub returns-in_default : goal.returns-in_default

@@ -1,8 +1,6 @@
-use Prim.Native.Nat.{ℕ, ◌-◌}
+use Prim.Native.Nat.{ℕ}
 use native.Mathlib.Omega.{arith}
 use mathlib.Core.Path.{refl, sym, ◌∙◌, subst}
-use lib.ListN.{length}
-use borrow.Author.Rules.{rules}
 use Rattle.common.proofs.Numbers.{within_low, within_high}
 use Rattle.common.specs.Bounds.{max_columns}
 use Rattle.doclist.specs.Spots.{Checking, Closes}

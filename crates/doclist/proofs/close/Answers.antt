@@ -1,9 +1,6 @@
-use Prim.Native.Nat.{◌-◌}
 use native.Mathlib.Omega.{arith}
 use mathlib.Core.Path.{sym, ◌∙◌}
-use lib.ListN.{length}
-use borrow.Author.Rules.{rules}
-use Rattle.doclist.proofs.Spots.{Closing, closing_refused, closing_ends, closing_broken, closing_small, closing_more}
+use Rattle.doclist.proofs.Spots.{closing_refused, closing_ends, closing_broken, closing_small, closing_more}
 use Rattle.doclist.proofs.close.Goals as goal
 
 pub loop-v-init : goal.loop-v-init

@@ -1,11 +1,8 @@
 -- `close` meets its contract. The loop's invariant, `Closing`: the machine comes along to the same column and position. The
 -- measure is what is left of the length.
 use Prim.Native.Nat.{◌-◌}
-use native.Mathlib.Omega.{arith}
-use mathlib.Core.Path.{sym, ◌∙◌}
 use lib.ListN.{length}
-use borrow.Author.Rules.{rules}
-use Rattle.doclist.proofs.Spots.{Closing, closing_refused, closing_ends, closing_broken, closing_small, closing_more}
+use Rattle.doclist.proofs.Spots.{Closing}
 use Rattle.doclist.proofs.close.Given as goal
 
 abbrev pub invariant-loop-v : goal.invariant-loop-v

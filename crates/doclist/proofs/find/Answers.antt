@@ -1,12 +1,10 @@
 use borrow.Enum.Refused.{opened}
 use Rattle.common.proofs.Numbers.{within_low, within_high}
 use Rattle.common.specs.Bounds.{max_columns}
-use Rattle.doclist.proofs.Finding.{Finding, finding_ends, finding_refused, finding_inside, finding_found, finding_behind, finding_next, told_not_closed, found, find_walk, find_wrong}
+use Rattle.doclist.proofs.Finding.{finding_ends, finding_refused, finding_inside, finding_found, finding_behind, finding_next, told_not_closed, found, find_walk, find_wrong}
 use Rattle.varint.proofs.Laws.{stored_at, next_after}
 use mathlib.Core.Path.{sym, ◌∙◌}
-use Prim.Native.Nat.{◌-◌}
 use native.Mathlib.Omega.{arith}
-use borrow.Author.Rules.{rules}
 use lib.ListN.{length}
 use Rattle.doclist.proofs.find.Goals as goal
 

@@ -1,13 +1,7 @@
 -- `find` meets its contract. The loop's invariant: what is left to search, from the state `q` on, gives what the search of
 -- the whole list gives (`Finding`). The measure is what is left of the length.
-use Rattle.common.proofs.Numbers.{within_low, within_high}
-use Rattle.common.specs.Bounds.{max_columns}
-use Rattle.doclist.proofs.Finding.{Finding, finding_ends, finding_refused, finding_inside, finding_found, finding_behind, finding_next, told_not_closed, found, find_walk, find_wrong}
-use Rattle.varint.proofs.Laws.{stored_at, next_after}
-use mathlib.Core.Path.{sym, ◌∙◌}
+use Rattle.doclist.proofs.Finding.{Finding}
 use Prim.Native.Nat.{◌-◌}
-use native.Mathlib.Omega.{arith}
-use borrow.Author.Rules.{rules}
 use lib.ListN.{length}
 use Rattle.doclist.proofs.find.Given as goal
 

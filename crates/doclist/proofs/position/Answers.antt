@@ -3,7 +3,6 @@ use Prim.Native.Nat.{◌+◌, ◌-◌}
 use native.Mathlib.Omega.{arith}
 use mathlib.Core.Path.{sym}
 use borrow.Author.Tests.{lt-ltb, le-ltb}
-use borrow.Author.Rules.{rules}
 use Rattle.doclist.specs.Doclist.{position_limit}
 use Rattle.doclist.proofs.Steps.{position_large}
 use Rattle.doclist.proofs.position.Goals as goal

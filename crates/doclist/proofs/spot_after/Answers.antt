@@ -1,7 +1,6 @@
 -- `spot_after` meets its contract: the test of the code is the test of `spot_after`.
 use mathlib.Core.Path.{◌∙◌}
 use borrow.Author.Tests.{eq-eqb, ne_eqb}
-use borrow.Author.Rules.{rules}
 use Rattle.doclist.proofs.spot_after.Goals as goal
 
 pub returns-then-v-eq-POS_COLUMN : goal.returns-then-v-eq-POS_COLUMN

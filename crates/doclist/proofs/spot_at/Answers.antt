@@ -3,7 +3,6 @@ use Prim.Native.Nat.{◌+◌, ◌-◌}
 use native.Mathlib.Omega.{arith}
 use mathlib.Core.Path.{sym}
 use borrow.Author.Tests.{lt-ltb, le-ltb}
-use borrow.Author.Rules.{rules}
 use Rattle.doclist.specs.Doclist.{position_limit}
 use Rattle.doclist.proofs.Steps.{spot_large}
 use Rattle.doclist.proofs.spot_at.Goals as goal

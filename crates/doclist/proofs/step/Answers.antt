@@ -2,7 +2,6 @@
 use Prim.Native.Nat.{ℕ}
 use mathlib.Core.Path.{ap}
 use borrow.Author.Tests.{eq-eqb, ne_eqb}
-use borrow.Author.Rules.{rules}
 use Rattle.doclist.specs.declared.State.TheVariants.{Open}
 use Rattle.doclist.proofs.step.Goals as goal
 

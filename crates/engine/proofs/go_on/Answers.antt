@@ -1,6 +1,5 @@
 -- `go_on` meets its contract: the cursors stay, or one of them passes over rows that lack a word.
 use native.Mathlib.Omega.{arith}
-use borrow.Author.Rules.{rules}
 use borrow.Author.Tests.{not-false}
 use Rattle.engine.proofs.Passing.{stays, passes}
 use Rattle.engine.proofs.go_on.Goals as goal

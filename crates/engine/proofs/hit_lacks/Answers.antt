@@ -1,6 +1,5 @@
 -- `hit_lacks` meets its contract: the words of the only hit are the row's.
 use mathlib.Core.Path.{sym, ◌∙◌}
-use borrow.Author.Rules.{rules}
 use Rattle.common.proofs.Cases.{false_not_true}
 use Rattle.engine.proofs.Lacking.{one_lacks}
 use Rattle.engine.proofs.hit_lacks.Goals as goal

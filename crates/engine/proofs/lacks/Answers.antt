@@ -1,5 +1,4 @@
 -- `lacks` meets its contract.
-use borrow.Author.Rules.{rules}
 use Rattle.common.proofs.Cases.{false_not_true}
 use Rattle.engine.proofs.lacks.Goals as goal
 

@@ -3,7 +3,6 @@ use Prim.Native.Nat.{◌+◌}
 use mathlib.Core.Path.{◌≡◌, sym, ap, ◌∙◌}
 use mathlib.Core.Bool.{true}
 use lib.ListN.{set}
-use borrow.Author.Rules.{rules}
 use Rattle.doclist.specs.Docid.{docid_of}
 use Rattle.common.specs.Pick.{pick}
 use Rattle.engine.proofs.note.Goals as goal

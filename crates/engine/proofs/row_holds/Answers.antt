@@ -1,5 +1,4 @@
 -- `row_holds` meets its contract: the row lacks a word, or it is evaluated.
-use borrow.Author.Rules.{rules}
 use Rattle.engine.proofs.Lacking.{decided_lacking}
 use Rattle.engine.proofs.Evaluating.{decided_evaluated}
 use Rattle.engine.proofs.row_holds.Goals as goal

@@ -1,10 +1,7 @@
-use Prim.Native.Nat.{◌-◌}
 use native.Mathlib.Omega.{arith}
 use mathlib.Core.Path.{refl, sym}
-use lib.ListN.{length}
 use borrow.Author.Rules.{rules}
-use Rattle.doclist.specs.Docid.{docid_limit}
-use Rattle.engine.proofs.Going.{Going, going_start, going_count, going_full, going_back, going_last, going_on}
+use Rattle.engine.proofs.Going.{going_start, going_count, going_full, going_back, going_last, going_on}
 use Rattle.engine.proofs.rows.Goals as goal
 
 pub slice_bounds-needs-end : goal.slice_bounds-needs-end

@@ -1,12 +1,9 @@
 -- `rows` meets its contract. The loop's invariant, `Going`: the docids below `from` that satisfy the query are listed, and the
 -- cursors stand at or after it. The measure is what is left up to the largest docid.
 use Prim.Native.Nat.{◌-◌}
-use native.Mathlib.Omega.{arith}
-use mathlib.Core.Path.{refl, sym}
 use lib.ListN.{length}
-use borrow.Author.Rules.{rules}
 use Rattle.doclist.specs.Docid.{docid_limit}
-use Rattle.engine.proofs.Going.{Going, going_start, going_count, going_full, going_back, going_last, going_on}
+use Rattle.engine.proofs.Going.{Going}
 use Rattle.engine.proofs.rows.Given as goal
 
 abbrev pub invariant-loop-from : goal.invariant-loop-from

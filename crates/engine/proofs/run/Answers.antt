@@ -1,7 +1,6 @@
 -- `run` meets its contract: the cursors that are opened are the index's rows, and all rows are gone through.
 use native.Mathlib.Omega.{arith}
 use mathlib.Core.Path.{sym, ap, ◌∙◌}
-use borrow.Author.Rules.{rules}
 use Rattle.common.specs.Rooms.{zeros}
 use Rattle.engine.proofs.Running.{ran}
 use Rattle.engine.proofs.run.Goals as goal

@@ -1,5 +1,4 @@
 -- `take_row` meets its contract: the row that the cursors give is evaluated, and they go on.
-use borrow.Author.Rules.{rules}
 use Rattle.engine.proofs.RowLaws.{row_evaluated}
 use Rattle.engine.proofs.take_row.Goals as goal
 

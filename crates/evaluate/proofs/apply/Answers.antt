@@ -1,6 +1,5 @@
 -- `apply` meets its contract.
 use mathlib.Core.Path.{◌∙◌}
-use borrow.Author.Rules.{rules}
 use Rattle.evaluate.proofs.apply.Goals as goal
 
 pub returns : goal.returns

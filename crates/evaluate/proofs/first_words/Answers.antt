@@ -1,6 +1,5 @@
 -- `first_words` meets its contract: a bit for each of 16 words fits 16 bits.
 use native.Mathlib.Omega.{arith}
-use borrow.Author.Rules.{rules}
 use Rattle.evaluate.proofs.Needing.{power_small}
 use Rattle.evaluate.proofs.first_words.Goals as goal
 

@@ -2,7 +2,6 @@
 use native.Mathlib.Omega.{arith}
 use mathlib.Core.Path.{sym}
 use lib.Seq.{length-take-le}
-use borrow.Author.Rules.{rules}
 use Rattle.chain.proofs.Rooms.{rooms_refused, rooms_all}
 use Rattle.evaluate.proofs.Cuts.{decides_cut, decides_none}
 use Rattle.evaluate.proofs.holds.Goals as goal

@@ -1,9 +1,5 @@
-use Prim.Native.Nat.{◌-◌}
 use native.Mathlib.Omega.{arith}
-use mathlib.Core.Path.{◌≡◌, refl, sym, ◌∙◌}
-use lib.ListN.{length, drop}
-use borrow.Author.Rules.{rules}
-use Rattle.evaluate.specs.Needs.{conjunctive}
+use mathlib.Core.Path.{refl, sym, ◌∙◌}
 use Rattle.evaluate.proofs.Needing.{plain_end, plain_more, plain_stop}
 use Rattle.evaluate.proofs.is_conjunction.Goals as goal
 

@@ -1,11 +1,8 @@
 -- `is_conjunction` meets its contract. The loop's invariant: the codes that are left tell the same as all of them.
 use Prim.Native.Nat.{◌-◌}
-use native.Mathlib.Omega.{arith}
-use mathlib.Core.Path.{◌≡◌, refl, sym, ◌∙◌}
+use mathlib.Core.Path.{◌≡◌}
 use lib.ListN.{length, drop}
-use borrow.Author.Rules.{rules}
 use Rattle.evaluate.specs.Needs.{conjunctive}
-use Rattle.evaluate.proofs.Needing.{plain_end, plain_more, plain_stop}
 use Rattle.evaluate.proofs.is_conjunction.Given as goal
 
 abbrev pub invariant-loop-i : goal.invariant-loop-i

@@ -1,7 +1,6 @@
 -- `rules` meets its contract: no word is needed, or all are, since each stands in every row that satisfies the query.
 use mathlib.Core.Path.{sym, ◌∙◌}
 use lib.Seq.{length-take-le}
-use borrow.Author.Rules.{rules}
 use borrow.Author.Tests.{not-true, not-false, lt-ltb, le-ltb}
 use Rattle.evaluate.proofs.Needing.{needed_none, needed_all}
 use Rattle.evaluate.proofs.needs.Goals as goal

@@ -1,6 +1,5 @@
 -- `push` meets its contract, test by test.
 use native.Mathlib.Omega.{arith}
-use borrow.Author.Rules.{rules}
 use Rattle.evaluate.proofs.push.Goals as goal
 
 pub returns-then-answer : goal.returns-then-answer

@@ -1,16 +1,11 @@
-use Prim.Native.Nat.{ℕ, ◌+◌, ◌-◌}
+use Prim.Native.Nat.{◌+◌}
 use native.Mathlib.Omega.{arith}
-use mathlib.Core.Path.{◌≡◌, refl, sym, ◌∙◌}
-use mathlib.Core.List.{List}
-use lib.ListN.{length, get_or}
-use borrow.Author.Rules.{rules}
-use Rattle.query.specs.Tree.{Tree, tree_nodes, postfix}
-use Rattle.meaning.specs.Satisfies.{Live, StandsAt}
-use Rattle.row.specs.Row.{Hit}
-use Rattle.chain.specs.Chains.{chain_end, TiesAre, RowFits, Agrees, MarkRoom, RoomsKept}
+use mathlib.Core.Path.{refl, sym, ◌∙◌}
+use lib.ListN.{get_or}
+use Rattle.chain.specs.Chains.{chain_end}
 use Rattle.chain.proofs.Rooms.{rooms_all, rooms_again}
-use Rattle.evaluate.specs.Evaluate.{push_bit, applied, Fit}
-use Rattle.evaluate.proofs.Running.{running_same, room_same, Running, running_start, running_done, running_chain, running_op}
+use Rattle.evaluate.specs.Evaluate.{push_bit, applied}
+use Rattle.evaluate.proofs.Running.{running_same, room_same, running_start, running_done, running_chain, running_op}
 use Rattle.evaluate.proofs.run.Goals as goal
 
 pub loop-i-init : goal.loop-i-init

@@ -1,18 +1,15 @@
 -- `run` meets its contract. The loop's invariant: the codes that are left, run on the stack, give the tree (`Running`). The measure
 -- is the number of codes that are left.
-use Prim.Native.Nat.{ℕ, ◌+◌, ◌-◌}
-use native.Mathlib.Omega.{arith}
-use mathlib.Core.Path.{◌≡◌, refl, sym, ◌∙◌}
+use Prim.Native.Nat.{ℕ, ◌-◌}
+use mathlib.Core.Path.{◌≡◌}
 use mathlib.Core.List.{List}
-use lib.ListN.{length, get_or}
-use borrow.Author.Rules.{rules}
+use lib.ListN.{length}
 use Rattle.query.specs.Tree.{Tree, tree_nodes, postfix}
 use Rattle.meaning.specs.Satisfies.{Live, StandsAt}
 use Rattle.row.specs.Row.{Hit}
-use Rattle.chain.specs.Chains.{chain_end, TiesAre, RowFits, Agrees, MarkRoom, RoomsKept}
-use Rattle.chain.proofs.Rooms.{rooms_all, rooms_again}
-use Rattle.evaluate.specs.Evaluate.{push_bit, applied, Fit}
-use Rattle.evaluate.proofs.Running.{running_same, room_same, Running, running_start, running_done, running_chain, running_op}
+use Rattle.chain.specs.Chains.{TiesAre, RowFits, Agrees, MarkRoom, RoomsKept}
+use Rattle.evaluate.specs.Evaluate.{Fit}
+use Rattle.evaluate.proofs.Running.{Running}
 use Rattle.evaluate.proofs.run.Given as goal
 
 abbrev pub invariant-loop-i : goal.invariant-loop-i

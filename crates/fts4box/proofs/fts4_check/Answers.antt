@@ -1,6 +1,5 @@
 -- `fts4box::fts4_check` meets its contract: the answer is that of `leaf::check`, whose second number is always 0.
 use mathlib.Core.Path.{◌≡◌, refl, sym, ap₂, subst}
-use borrow.Author.Rules.{rules}
 use Rattle.common.specs.Refusals.{numbers, FirstDue}
 use Rattle.leaf.specs.Answers.{check_numbers, check_refusals}
 use Rattle.leaf.specs.declared.LeafCheck.{LeafCheck}

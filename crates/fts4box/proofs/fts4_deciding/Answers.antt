@@ -4,7 +4,6 @@ use lib.IntN.{ℤ}
 use mir.Facts.{to_z-of_z}
 use Rattle.common.specs.Refusals.{numbers}
 use Rattle.lookup.specs.Entries.{DecidingIs}
-use borrow.Author.Rules.{rules}
 use Rattle.fts4box.proofs.fts4_deciding.Goals as goal
 
 pub returns : goal.returns

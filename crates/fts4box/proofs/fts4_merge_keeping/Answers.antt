@@ -1,7 +1,6 @@
 -- `fts4box::fts4_merge_keeping` meets its contract: the answer and the room are those of `merge::merge_keeping`.
 use Prim.Native.Nat.{ℕ}
 use mathlib.Core.Path.{ap₂}
-use borrow.Author.Rules.{rules}
 use Rattle.common.specs.Refusals.{numbers}
 use Rattle.fts4box.proofs.fts4_merge_keeping.Goals as goal
 

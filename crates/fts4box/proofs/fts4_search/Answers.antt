@@ -1,6 +1,5 @@
 -- `fts4box::fts4_search` meets its contract: the answer and the room are those of `search::search`.
 use mathlib.Core.Path.{ap₂}
-use borrow.Author.Rules.{rules}
 use Rattle.common.specs.Refusals.{numbers}
 use Rattle.fts4box.proofs.fts4_search.Goals as goal
 

@@ -4,7 +4,6 @@ use lib.IntN.{ℤ}
 use mir.Facts.{to_z-of_z}
 use Rattle.common.specs.Refusals.{numbers}
 use Rattle.writer.specs.Answers as writer
-use borrow.Author.Rules.{rules}
 use lib.ListN.{length}
 use Rattle.fts4box.proofs.fts4_write.Goals as goal
 

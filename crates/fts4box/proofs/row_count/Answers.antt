@@ -2,9 +2,7 @@
 use mathlib.Core.Path.{ap, ◌∙◌}
 use native.Mathlib.Omega.{arith}
 use mir.Facts.{to_z-of_z}
-use borrow.Author.Rules.{rules}
 use Rattle.doclist.specs.Docid.{key_of}
-use Rattle.verdict.specs.Sheet.{max_rows}
 use Rattle.fts4box.proofs.row_count.Goals as goal
 
 pub overflow_sub-result : goal.overflow_sub-result

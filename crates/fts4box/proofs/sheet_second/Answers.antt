@@ -1,12 +1,9 @@
 -- `sheet_second` meets its contract: the rows of a run are few, and every other number of a sheet is one of 64 bits.
-use mathlib.Core.Path.{◌≡◌, refl, sym, ap, ◌∙◌, subst}
-use lib.IntN.{ℤ}
+use mathlib.Core.Path.{refl, sym, ap, ◌∙◌}
 use mir.Facts.{to_z-of_z}
 use mir.Syntax.{w64}
 use mir.Val.{SFits}
 use borrow.Author.Rules.{rules}
-use Rattle.doclist.specs.Docid.{key_of}
-use Rattle.verdict.specs.Sheet.{RunRight, row_count}
 use Rattle.fts4box.specs.Calls.{signed, sheet_second}
 use Rattle.fts4box.proofs.Sheets.{second_stored, stored_run, stored_rows, counted_run, counted_rows}
 use Rattle.fts4box.proofs.sheet_second.Goals as goal

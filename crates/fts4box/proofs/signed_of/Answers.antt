@@ -1,6 +1,5 @@
 -- `signed_of` meets its contract: every number of 64 bits is some docid's.
 use mathlib.Core.Path.{ap, ◌∙◌}
-use borrow.Author.Rules.{rules}
 use Rattle.doclist.specs.Docid.{docid_of}
 use Rattle.fts4box.proofs.Sheets.{signed_stored}
 use Rattle.fts4box.proofs.signed_of.Goals as goal

@@ -2,7 +2,6 @@
 use Prim.Native.Nat.{ℕ}
 use native.Mathlib.Omega.{arith}
 use mathlib.Core.List.{List}
-use borrow.Author.Rules.{rules}
 use Rattle.leaf.specs.Answers.{CheckShape}
 use Rattle.leaf.proofs.Checks.{checked, no_columns, many_columns, too_long, no_words, not_whole, whole}
 use Rattle.leaf.proofs.check.Goals as goal

@@ -1,7 +1,6 @@
 -- `head_at` meets its contract: each way out is a case of `head_at`.
 use mathlib.Core.Path.{sym, ◌∙◌}
 use borrow.Author.Tests.{lt-ltb, le-ltb, eq-eqb, ne_eqb}
-use borrow.Author.Rules.{rules}
 use Rattle.leaf.proofs.head_at.Goals as goal
 
 pub returns-then-at-eq-FIRST_WORD : goal.returns-then-at-eq-FIRST_WORD

@@ -1,9 +1,4 @@
-use mathlib.Core.Path.{◌≡◌, refl, sym, ◌∙◌}
-use Prim.Native.Nat.{◌-◌}
-use native.Mathlib.Omega.{arith}
-use borrow.Author.Rules.{rules}
-use lib.ListN.{length, drop}
-use Rattle.leaf.specs.Leaf.{is_before}
+use mathlib.Core.Path.{refl, sym, ◌∙◌}
 use Rattle.leaf.proofs.Orders.{before_ends, before_less, before_more, before_next, before_rest}
 use Rattle.leaf.proofs.is_before.Goals as goal
 

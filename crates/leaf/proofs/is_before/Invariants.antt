@@ -1,11 +1,8 @@
 -- `is_before` meets its contract. The loop's invariant: what is after the first `i` bytes decides.
-use mathlib.Core.Path.{◌≡◌, refl, sym, ◌∙◌}
+use mathlib.Core.Path.{◌≡◌}
 use Prim.Native.Nat.{◌-◌}
-use native.Mathlib.Omega.{arith}
-use borrow.Author.Rules.{rules}
 use lib.ListN.{length, drop}
 use Rattle.leaf.specs.Leaf.{is_before}
-use Rattle.leaf.proofs.Orders.{before_ends, before_less, before_more, before_next, before_rest}
 use Rattle.leaf.proofs.is_before.Given as goal
 
 abbrev pub invariant-loop-i : goal.invariant-loop-i

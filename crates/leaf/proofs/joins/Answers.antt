@@ -4,7 +4,6 @@ use mathlib.Core.Path.{◌≡◌}
 use lib.Seq.{length-take-le, get_or-take}
 use lib.ListN.{length, take}
 use borrow.Author.Tests.{lt-ltb, le-ltb}
-use borrow.Author.Rules.{rules}
 use Rattle.leaf.proofs.joins.Goals as goal
 
 pub returns-then-p-len : goal.returns-then-p-len

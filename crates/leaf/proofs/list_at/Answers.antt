@@ -2,7 +2,6 @@
 use native.Mathlib.Omega.{arith}
 use mathlib.Core.Path.{sym, ◌∙◌}
 use borrow.Author.Tests.{lt-ltb, le-ltb}
-use borrow.Author.Rules.{rules}
 use Rattle.varint.proofs.Laws.{stored_at, next_within}
 use Rattle.leaf.proofs.list_at.Goals as goal
 

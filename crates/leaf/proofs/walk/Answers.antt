@@ -1,10 +1,9 @@
-use Prim.Native.Nat.{ℕ, ◌+◌, ◌-◌, ◌^◌, ◌≤◌, ◌<◌}
+use Prim.Native.Nat.{ℕ, ◌+◌, ◌^◌, ◌<◌}
 use native.Mathlib.Omega.{arith}
-use mathlib.Core.Path.{◌≡◌, refl, sym, ap, ◌∙◌}
+use mathlib.Core.Path.{refl, sym, ap, ◌∙◌}
 use mathlib.Core.List.{List}
-use lib.ListN.{length, take}
+use lib.ListN.{length}
 use borrow.Author.Tests.{ne_eqb, not-true, not-false}
-use borrow.Author.Rules.{rules}
 use Rattle.common.specs.Bytes.{part}
 use Rattle.common.proofs.Parts.{part_length}
 use Rattle.common.proofs.Rooms.{paste_length}
@@ -12,7 +11,7 @@ use Rattle.leaf.specs.Reading.{front_of}
 use Rattle.leaf.proofs.Words.{suffix_fits}
 use Rattle.leaf.proofs.Heads.{head_sound}
 use Rattle.leaf.proofs.Laws.{walked}
-use Rattle.leaf.proofs.Walking.{Walking, walking_start, walking_more, walk_end, no_head, no_join, no_list}
+use Rattle.leaf.proofs.Walking.{walking_start, walking_more, walk_end, no_head, no_join, no_list}
 use Rattle.leaf.proofs.walk.Goals as goal
 
 pub returns-in_default : goal.returns-in_default

@@ -1,20 +1,9 @@
 -- `walk` meets its contract. The invariant: the first `len` bytes of `word` are the last word, and what is left of the walk
 -- goes on from `i` with `words` sound words.
-use Prim.Native.Nat.{ℕ, ◌+◌, ◌-◌, ◌^◌, ◌≤◌, ◌<◌}
-use native.Mathlib.Omega.{arith}
-use mathlib.Core.Path.{◌≡◌, refl, sym, ap, ◌∙◌}
-use mathlib.Core.List.{List}
+use Prim.Native.Nat.{◌-◌, ◌≤◌}
+use mathlib.Core.Path.{◌≡◌}
 use lib.ListN.{length, take}
-use borrow.Author.Tests.{ne_eqb, not-true, not-false}
-use borrow.Author.Rules.{rules}
-use Rattle.common.specs.Bytes.{part}
-use Rattle.common.proofs.Parts.{part_length}
-use Rattle.common.proofs.Rooms.{paste_length}
-use Rattle.leaf.specs.Reading.{front_of}
-use Rattle.leaf.proofs.Words.{suffix_fits}
-use Rattle.leaf.proofs.Heads.{head_sound}
-use Rattle.leaf.proofs.Laws.{walked}
-use Rattle.leaf.proofs.Walking.{Walking, walking_start, walking_more, walk_end, no_head, no_join, no_list}
+use Rattle.leaf.proofs.Walking.{Walking}
 use Rattle.leaf.proofs.walk.Given as goal
 
 abbrev pub invariant-loop-i : goal.invariant-loop-i

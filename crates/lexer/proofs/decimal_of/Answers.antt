@@ -1,9 +1,7 @@
-use Prim.Native.Nat.{◌-◌, ◌≤◌, ◌<◌}
 use native.Mathlib.Omega.{arith}
-use mathlib.Core.Path.{◌≡◌, refl, sym, ◌∙◌}
-use lib.ListN.{length, get_or, drop}
-use Rattle.lexer.specs.Tokens.{decimal_from, decimal}
-use Rattle.lexer.proofs.Numbers.{digit_at, below, below_none, below_more, below_four, decimal_more, decimal_end}
+use mathlib.Core.Path.{refl, sym, ◌∙◌}
+use lib.ListN.{get_or}
+use Rattle.lexer.proofs.Numbers.{digit_at, below_none, below_more, below_four, decimal_more, decimal_end}
 use Rattle.lexer.proofs.decimal_of.Goals as goal
 
 pub loop-i-init : goal.loop-i-init

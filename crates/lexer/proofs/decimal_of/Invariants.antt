@@ -1,10 +1,9 @@
 -- The function meets its contract. The invariant: the digits before `i` write `n`, and i digits write less than 10 ^ i.
 use Prim.Native.Nat.{◌-◌, ◌≤◌, ◌<◌}
-use native.Mathlib.Omega.{arith}
-use mathlib.Core.Path.{◌≡◌, refl, sym, ◌∙◌}
-use lib.ListN.{length, get_or, drop}
+use mathlib.Core.Path.{◌≡◌}
+use lib.ListN.{length, drop}
 use Rattle.lexer.specs.Tokens.{decimal_from, decimal}
-use Rattle.lexer.proofs.Numbers.{digit_at, below, below_none, below_more, below_four, decimal_more, decimal_end}
+use Rattle.lexer.proofs.Numbers.{below}
 use Rattle.lexer.proofs.decimal_of.Given as goal
 
 abbrev pub invariant-loop-i : goal.invariant-loop-i

@@ -1,6 +1,5 @@
 -- The function meets its contract: a first word, of any length, or none.
 use mathlib.Core.Path.{sym, ◌∙◌}
-use borrow.Author.Rules.{rules}
 use Rattle.lexer.proofs.PhraseSteps.{some_word, some_overlong, no_word}
 use Rattle.lexer.proofs.has_word.Goals as goal
 

@@ -1,5 +1,4 @@
 -- The function meets its contract: in each arm the class is known, and its own test answers.
-use borrow.Author.Rules.{rules}
 use Rattle.lexer.specs.Tokens.{is_inner}
 use Rattle.lexer.proofs.in_class.Goals as goal
 

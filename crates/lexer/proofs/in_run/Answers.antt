@@ -1,6 +1,5 @@
 -- The function meets its contract: each return is the test that led there.
 use mathlib.Core.Path.{sym, subst, ◌∙◌}
-use borrow.Author.Rules.{rules}
 use Rattle.offsets.specs.Cut.{cut}
 use Rattle.lexer.specs.Filling.{words_of}
 use Rattle.lexer.specs.Looking.{operand_in, Takes}

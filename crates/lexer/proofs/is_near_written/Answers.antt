@@ -3,7 +3,6 @@ use native.Mathlib.Omega.{arith}
 use mathlib.Core.Path.{sym, ◌∙◌}
 use lib.Seq.{length-take-le}
 use borrow.Author.Tests.{not-true, not-false}
-use borrow.Author.Rules.{rules}
 use Rattle.lexer.proofs.RunSteps.{near_short, near_long, near_other, near_digits}
 use Rattle.lexer.proofs.is_near_written.Goals as goal
 

@@ -1,7 +1,6 @@
 -- The function meets its contract: each return is the test that led there.
 use mathlib.Core.Path.{sym, ◌∙◌}
 use borrow.Author.Tests.{eq-eqb, ne_eqb}
-use borrow.Author.Rules.{rules}
 use Rattle.lexer.specs.Tokens.{is_run_byte}
 use Rattle.lexer.proofs.is_run_byte.Goals as goal
 

@@ -1,6 +1,5 @@
 -- The function meets its contract: each return is the test that led there.
 use native.Mathlib.Omega.{arith}
-use borrow.Author.Rules.{rules}
 use Rattle.common.proofs.Runs.{span_most}
 use Rattle.tokenizer.specs.Word.{is_word}
 use Rattle.lexer.proofs.RunSteps.{stem_none, stem_plain, stem_longer, stem_last}

@@ -1,7 +1,6 @@
 -- The function meets its contract: each return is the test that led there.
 use native.Mathlib.Omega.{arith}
 use mathlib.Core.Path.{◌∙◌}
-use borrow.Author.Rules.{rules}
 use Rattle.lexer.proofs.LexSteps.{run_length, run_fits, ahead_none, ahead_open, ahead_close, ahead_quote, ahead_word}
 use Rattle.lexer.proofs.Places.{look_answers}
 use Rattle.lexer.proofs.look.Goals as goal

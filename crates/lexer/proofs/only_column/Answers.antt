@@ -1,5 +1,4 @@
 -- The function meets its contract: a bit below the 16th stays in 16 bits.
-use borrow.Author.Rules.{rules}
 use Rattle.common.proofs.Bits.{one_bit}
 use Rattle.lexer.proofs.only_column.Goals as goal
 

@@ -2,7 +2,6 @@
 use native.Mathlib.Nat.{le_of_lt}
 use native.Mathlib.Omega.{arith}
 use mathlib.Core.Path.{sym, ap, ◌∙◌}
-use borrow.Author.Rules.{rules}
 use Rattle.lexer.specs.Looking.{sign_of}
 use Rattle.lexer.proofs.Runs.{near_read}
 use Rattle.lexer.proofs.LexSteps.{digits_few, digits_pass, run_and, run_or, run_not, run_near, run_written, run_other}

@@ -3,7 +3,6 @@ use native.Mathlib.Nat.{le_of_lt}
 use mathlib.Core.Path.{sym, ap, subst, ◌∙◌}
 use lib.Seq.{length-take-le}
 use borrow.Author.Tests.{not-true, not-false}
-use borrow.Author.Rules.{rules}
 use Rattle.lexer.specs.Filling.{words_of}
 use Rattle.lexer.specs.Looking.{operand_in, Takes}
 use Rattle.lexer.proofs.LexSteps.{quote_unclosed, quote_empty, quote_phrase, takes_nothing}

@@ -1,12 +1,7 @@
-use Prim.Native.Nat.{◌-◌}
-use native.Mathlib.Omega.{arith}
-use mathlib.Core.Path.{◌≡◌, refl, sym, ◌∙◌}
-use lib.ListN.{length}
+use mathlib.Core.Path.{refl, sym, ◌∙◌}
 use borrow.Author.Tests.{not-true, not-false}
-use borrow.Author.Rules.{rules}
 use Rattle.common.proofs.Runs.{past_end, past_stop, past_more}
 use Rattle.lexer.specs.Tokens.{is_space}
-use Rattle.lexer.specs.Looking.{after_space}
 use Rattle.lexer.proofs.skip.Goals as goal
 
 pub loop-i-init : goal.loop-i-init

@@ -1,12 +1,7 @@
 -- The function meets its contract. The invariant: all bytes from `at` up to `i` are white space, so it goes on from there.
 use Prim.Native.Nat.{◌-◌}
-use native.Mathlib.Omega.{arith}
-use mathlib.Core.Path.{◌≡◌, refl, sym, ◌∙◌}
+use mathlib.Core.Path.{◌≡◌}
 use lib.ListN.{length}
-use borrow.Author.Tests.{not-true, not-false}
-use borrow.Author.Rules.{rules}
-use Rattle.common.proofs.Runs.{past_end, past_stop, past_more}
-use Rattle.lexer.specs.Tokens.{is_space}
 use Rattle.lexer.specs.Looking.{after_space}
 use Rattle.lexer.proofs.skip.Given as goal
 

@@ -1,11 +1,7 @@
-use Prim.Native.Nat.{◌-◌, ◌≤◌}
 use native.Mathlib.Omega.{arith}
-use mathlib.Core.Path.{◌≡◌, sym, ◌∙◌}
-use lib.ListN.{length}
+use mathlib.Core.Path.{sym, ◌∙◌}
 use borrow.Author.Tests.{not-true, not-false}
-use borrow.Author.Rules.{rules}
-use Rattle.common.specs.Bytes.{span}
-use Rattle.common.proofs.Runs.{past, past_end, past_stop, past_more}
+use Rattle.common.proofs.Runs.{past_end, past_stop, past_more}
 use Rattle.lexer.specs.Looking.{in_class}
 use Rattle.lexer.proofs.stretch.Goals as goal
 

@@ -1,12 +1,9 @@
 -- The function meets its contract. The invariant: all bytes before `i` pass, so the stretch goes on from there.
 use Prim.Native.Nat.{◌-◌, ◌≤◌}
-use native.Mathlib.Omega.{arith}
-use mathlib.Core.Path.{◌≡◌, sym, ◌∙◌}
+use mathlib.Core.Path.{◌≡◌}
 use lib.ListN.{length}
-use borrow.Author.Tests.{not-true, not-false}
-use borrow.Author.Rules.{rules}
 use Rattle.common.specs.Bytes.{span}
-use Rattle.common.proofs.Runs.{past, past_end, past_stop, past_more}
+use Rattle.common.proofs.Runs.{past}
 use Rattle.lexer.specs.Looking.{in_class}
 use Rattle.lexer.proofs.stretch.Given as goal
 

@@ -1,7 +1,6 @@
 -- The function meets its contract: white space is passed, and each return is the test that led there.
 use native.Mathlib.Omega.{arith}
 use mathlib.Core.Path.{refl}
-use borrow.Author.Rules.{rules}
 use Rattle.offsets.specs.Cut.{cut}
 use Rattle.lexer.specs.Filling.{words_of}
 use Rattle.lexer.specs.Looking.{none_next}

@@ -1,8 +1,7 @@
-use Prim.Native.Nat.{ℕ, ◌-◌, ◌≤◌}
+use Prim.Native.Nat.{ℕ}
 use native.Mathlib.Omega.{arith}
-use mathlib.Core.Path.{◌≡◌, refl}
+use mathlib.Core.Path.{refl}
 use mathlib.Core.List.{List}
-use lib.ListN.{length, take}
 use Rattle.lookup.proofs.Ordering.{byte_less, byte_greater, byte_same, first_ends, second_ends, both_end}
 use Rattle.lookup.proofs.compare.Goals as goal
 

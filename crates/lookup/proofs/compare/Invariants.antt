@@ -1,10 +1,7 @@
 -- `compare` meets its contract. The invariant: the first `i` bytes of the two are the same.
-use Prim.Native.Nat.{ℕ, ◌-◌, ◌≤◌}
-use native.Mathlib.Omega.{arith}
-use mathlib.Core.Path.{◌≡◌, refl}
-use mathlib.Core.List.{List}
+use Prim.Native.Nat.{◌-◌, ◌≤◌}
+use mathlib.Core.Path.{◌≡◌}
 use lib.ListN.{length, take}
-use Rattle.lookup.proofs.Ordering.{byte_less, byte_greater, byte_same, first_ends, second_ends, both_end}
 use Rattle.lookup.proofs.compare.Given as goal
 
 abbrev pub invariant-loop-i : goal.invariant-loop-i

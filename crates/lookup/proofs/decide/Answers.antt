@@ -1,7 +1,6 @@
 -- `decide` meets its contract: the newer leaf's entry, or that it has none and what the older says.
 use borrow.Enum.Refused.{opened}
 use mathlib.Core.Path.{subst}
-use borrow.Author.Rules.{rules}
 use Rattle.lookup.specs.Entries.{EntryFound}
 use Rattle.lookup.proofs.EntryLaws.{found_no_entry}
 use Rattle.lookup.proofs.decide.Goals as goal

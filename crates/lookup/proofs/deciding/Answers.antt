@@ -3,7 +3,6 @@ use borrow.Enum.Refused.{opened}
 use native.Mathlib.Omega.{arith}
 use mathlib.Core.Path.{refl, sym, ap, subst, ap₂}
 use lib.IntN.{ℤ}
-use borrow.Author.Rules.{rules}
 use mir.Facts.{to_z-of_z}
 use Rattle.common.specs.Refusals.{numbers}
 use Rattle.lookup.specs.Entries.{DecidingIs, entry_part}

@@ -4,7 +4,6 @@ use native.Mathlib.Omega.{arith}
 use mathlib.Core.Path.{ap, subst}
 use mathlib.Core.List.{List}
 use lib.ListN.{length}
-use borrow.Author.Rules.{rules}
 use Rattle.leaf.specs.Leaf.{Term, LeafIs, ListIs}
 use Rattle.lookup.specs.Words.{WordFound}
 use Rattle.lookup.proofs.EntryLaws.{found_none, no_list_no_entry, list_entry, list_entry_most, list_no_entry}

@@ -1,7 +1,6 @@
 -- `entry_shape` meets its contract: each test is a part of the shape.
 use native.Mathlib.Omega.{arith}
 use mathlib.Core.Path.{refl}
-use borrow.Author.Rules.{rules}
 use Rattle.common.proofs.Cases.{fails_exactly}
 use Rattle.lookup.specs.Words.{WordShape}
 use Rattle.lookup.proofs.entry_shape.Goals as goal

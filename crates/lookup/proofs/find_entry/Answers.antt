@@ -3,7 +3,6 @@ use borrow.Enum.Refused.{opened}
 use native.Mathlib.Omega.{arith}
 use mathlib.Core.Path.{sym, ap, ◌∙◌, subst}
 use borrow.Author.Tests.{not-true, not-false}
-use borrow.Author.Rules.{rules}
 use mir.Facts.{to_z-of_z}
 use Rattle.common.proofs.Cases.{false_not_true}
 use Rattle.doclist.specs.Docid.{key_of}

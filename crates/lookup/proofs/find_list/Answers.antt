@@ -1,6 +1,5 @@
 -- `find_list` meets its contract: each way out is an answer whose claim holds.
 use native.Mathlib.Omega.{arith}
-use borrow.Author.Rules.{rules}
 use Rattle.leaf.specs.declared.LeafCheck.TheVariants.{Accepted, Shape, Broken}
 use Rattle.leaf.proofs.Checks as check
 use Rattle.lookup.specs.Words.{WordShape, LookupShape}

@@ -2,7 +2,6 @@
 use borrow.Enum.Refused.{opened}
 use native.Mathlib.Omega.{arith}
 use mathlib.Core.Path.{refl, sym, ap, ap₂}
-use borrow.Author.Rules.{rules}
 use Rattle.common.specs.Refusals.{numbers}
 use Rattle.lookup.specs.declared.WordAnswer.TheVariants.{Found}
 use Rattle.lookup.specs.Words.{word_part}

@@ -1,14 +1,12 @@
-use Prim.Native.Nat.{ℕ, ◌-◌, ◌^◌, ◌≤◌, ◌<◌}
+use Prim.Native.Nat.{ℕ, ◌^◌, ◌<◌}
 use native.Mathlib.Omega.{arith}
 use mathlib.Core.Path.{sym, ◌∙◌, subst}
 use mathlib.Core.List.{List}
 use lib.ListN.{length}
-use borrow.Author.Rules.{rules}
 use Rattle.varint.proofs.Laws.{next_after}
-use Rattle.leaf.specs.Leaf.{Term, LeafIs}
 use Rattle.leaf.proofs.Heads.{head_sound}
 use Rattle.lookup.specs.Order.{SharedMost}
-use Rattle.lookup.proofs.Seeking.{Seeking, height_not_refused, seeking_first, seeking_end, seeking_refused, seeking_next, seeking_behind, seeking_found}
+use Rattle.lookup.proofs.Seeking.{height_not_refused, seeking_first, seeking_end, seeking_refused, seeking_next, seeking_behind, seeking_found}
 use Rattle.lookup.proofs.seek.Goals as goal
 
 pub returns-in_default : goal.returns-in_default

@@ -1,6 +1,5 @@
 -- `stands` meets its contract: each way out is one of the three orders of what is shared.
 use native.Mathlib.Omega.{arith}
-use borrow.Author.Rules.{rules}
 use Rattle.lookup.proofs.Ordering.{stands_behind, stands_as_before, stands_compared}
 use Rattle.lookup.proofs.stands.Goals as goal
 

@@ -5,7 +5,6 @@ use mathlib.Core.Path.{◌≡◌, refl, ap, ◌∙◌}
 use mathlib.Core.List.{List}
 use lib.ListN.{length, replicate, length-replicate}
 use borrow.Author.Tests.{not-true, not-false}
-use borrow.Author.Rules.{rules}
 use Rattle.search.proofs.Indexes.{order_lent, order_room}
 use Rattle.merge.proofs.Merges.{shape_refused, leaf_refused, need_refused, room_refused, all_written, front_first, front_below}
 use Rattle.merge.proofs.merge_with.Goals as goal

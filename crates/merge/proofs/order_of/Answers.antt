@@ -3,7 +3,6 @@ use Prim.Native.Nat.{ℕ, ◌≤◌}
 use native.Mathlib.Omega.{arith}
 use mathlib.Core.Path.{◌≡◌}
 use borrow.Author.Tests.{not-true, not-false}
-use borrow.Author.Rules.{rules}
 use Rattle.common.proofs.Cases.{false_not_true, fails_exactly, false_refutes, split}
 use Rattle.merge.proofs.Merges.{shape_told}
 use Rattle.merge.proofs.order_of.Goals as goal

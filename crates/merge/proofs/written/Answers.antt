@@ -1,7 +1,6 @@
 -- `written` meets its contract.
 use mathlib.Core.Path.{refl}
 use borrow.Author.Tests.{eq-eqb, ne_eqb}
-use borrow.Author.Rules.{rules}
 use Rattle.merge.proofs.written.Goals as goal
 
 pub returns-then-size-eq0 : goal.returns-then-size-eq0

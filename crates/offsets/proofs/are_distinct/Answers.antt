@@ -1,12 +1,8 @@
-use Prim.Native.Nat.{◌-◌, ◌≤◌}
 use native.Mathlib.Omega.{arith}
-use mathlib.Core.Path.{◌≡◌, sym, ◌∙◌}
-use lib.ListN.{length, drop}
+use mathlib.Core.Path.{sym, ◌∙◌}
 use borrow.Author.Tests.{not-true, not-false}
-use borrow.Author.Rules.{rules}
 use Rattle.common.proofs.Members.{every_fails, every_next, every_end}
 use Rattle.offsets.specs.Cut.{cut}
-use Rattle.offsets.specs.Names.{all_distinct}
 use Rattle.offsets.proofs.Cuts.{in_cut, past_cut}
 use Rattle.offsets.proofs.NameLaws.{distinct_test}
 use Rattle.offsets.proofs.are_distinct.Goals as goal

@@ -2,7 +2,6 @@
 use mathlib.Core.Path.{sym, ◌∙◌}
 use mathlib.Core.Bool.{false}
 use borrow.Author.Tests.{not-true, not-false}
-use borrow.Author.Rules.{rules}
 use Rattle.offsets.proofs.NameSteps.{names_told, not_cut, no_name, many_names, bad_name, good_names}
 use Rattle.offsets.proofs.are_names.Goals as goal
 

@@ -1,10 +1,7 @@
-use Prim.Native.Nat.{◌-◌}
 use native.Mathlib.Omega.{arith}
-use mathlib.Core.Path.{◌≡◌, sym, ap, ◌∙◌}
-use lib.ListN.{length, drop}
-use borrow.Author.Rules.{rules}
+use mathlib.Core.Path.{sym, ap, ◌∙◌}
 use Rattle.offsets.specs.Cut.{cut}
-use Rattle.offsets.specs.Names.{same_name, column_from}
+use Rattle.offsets.specs.Names.{same_name}
 use Rattle.offsets.proofs.Cuts.{in_cut, past_cut}
 use Rattle.offsets.proofs.NameSteps.{column_here, column_later, column_nowhere}
 use Rattle.offsets.proofs.column_from.Goals as goal

@@ -1,13 +1,9 @@
 -- `column_from` meets its contract. The loop's invariant: the search from `i` on finds what the search from `from` on does.
 use Prim.Native.Nat.{◌-◌}
-use native.Mathlib.Omega.{arith}
-use mathlib.Core.Path.{◌≡◌, sym, ap, ◌∙◌}
+use mathlib.Core.Path.{◌≡◌}
 use lib.ListN.{length, drop}
-use borrow.Author.Rules.{rules}
 use Rattle.offsets.specs.Cut.{cut}
-use Rattle.offsets.specs.Names.{same_name, column_from}
-use Rattle.offsets.proofs.Cuts.{in_cut, past_cut}
-use Rattle.offsets.proofs.NameSteps.{column_here, column_later, column_nowhere}
+use Rattle.offsets.specs.Names.{column_from}
 use Rattle.offsets.proofs.column_from.Given as goal
 
 abbrev pub invariant-loop-i : goal.invariant-loop-i

@@ -1,5 +1,4 @@
 -- `column_of` meets its contract: the search starts at the first name, and the law of columns says what it finds.
-use borrow.Author.Rules.{rules}
 use Rattle.offsets.specs.Cut.{cut}
 use Rattle.offsets.proofs.NameSteps.{column_told}
 use Rattle.offsets.proofs.column_of.Goals as goal

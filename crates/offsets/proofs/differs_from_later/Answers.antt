@@ -1,6 +1,5 @@
 -- `differs_from_later` meets its contract: the name is new exactly when the search among the later ones finds no column.
 use mathlib.Core.Path.{sym, ap, ◌∙◌}
-use borrow.Author.Rules.{rules}
 use Rattle.offsets.specs.Cut.{cut}
 use Rattle.offsets.specs.Names.{is_new}
 use Rattle.offsets.proofs.NameSteps.{later_told}

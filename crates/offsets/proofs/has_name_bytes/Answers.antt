@@ -1,11 +1,7 @@
-use Prim.Native.Nat.{◌-◌, ◌≤◌}
 use native.Mathlib.Omega.{arith}
-use mathlib.Core.Path.{◌≡◌, sym, ◌∙◌}
-use lib.ListN.{length, drop}
+use mathlib.Core.Path.{sym, ◌∙◌}
 use borrow.Author.Tests.{not-true, not-false}
-use borrow.Author.Rules.{rules}
 use Rattle.common.proofs.Members.{every_fails, every_next, every_end}
-use Rattle.offsets.specs.Names.{name_bytes}
 use Rattle.offsets.proofs.NameLaws.{byte_test}
 use Rattle.offsets.proofs.has_name_bytes.Goals as goal
 

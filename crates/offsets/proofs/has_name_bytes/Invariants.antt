@@ -1,13 +1,8 @@
 -- `has_name_bytes` meets its contract. The loop's invariant: the bytes still to read pass exactly when all of them do.
 use Prim.Native.Nat.{◌-◌, ◌≤◌}
-use native.Mathlib.Omega.{arith}
-use mathlib.Core.Path.{◌≡◌, sym, ◌∙◌}
+use mathlib.Core.Path.{◌≡◌}
 use lib.ListN.{length, drop}
-use borrow.Author.Tests.{not-true, not-false}
-use borrow.Author.Rules.{rules}
-use Rattle.common.proofs.Members.{every_fails, every_next, every_end}
 use Rattle.offsets.specs.Names.{name_bytes}
-use Rattle.offsets.proofs.NameLaws.{byte_test}
 use Rattle.offsets.proofs.has_name_bytes.Given as goal
 
 abbrev pub invariant-loop-i : goal.invariant-loop-i

@@ -1,12 +1,9 @@
-use Prim.Native.Nat.{◌-◌, ◌≤◌}
 use native.Mathlib.Omega.{arith}
-use mathlib.Core.Path.{◌≡◌, sym, ap, ◌∙◌}
-use lib.ListN.{length, drop}
+use mathlib.Core.Path.{sym, ap, ◌∙◌}
 use borrow.Author.Tests.{not-true, not-false}
-use borrow.Author.Rules.{rules}
 use Rattle.common.proofs.Members.{every_fails, every_next, every_end}
 use Rattle.offsets.specs.Cut.{cut}
-use Rattle.offsets.specs.Names.{is_name, each_name}
+use Rattle.offsets.specs.Names.{is_name}
 use Rattle.offsets.proofs.Cuts.{in_cut, past_cut}
 use Rattle.offsets.proofs.NameLaws.{name_test}
 use Rattle.offsets.proofs.has_names.Goals as goal

@@ -1,10 +1,8 @@
-use Prim.Native.Nat.{◌-◌, ◌≤◌, ◌<◌}
+use Prim.Native.Nat.{◌<◌}
 use native.Mathlib.Omega.{arith}
-use mathlib.Core.Path.{◌≡◌, ◌∙◌}
+use mathlib.Core.Path.{◌∙◌}
 use mathlib.Core.Bool.{false}
-use lib.ListN.{length, drop}
-use borrow.Author.Rules.{rules}
-use Rattle.offsets.specs.Cut.{ends_from}
+use lib.ListN.{length}
 use Rattle.offsets.proofs.CutSteps.{falls, passes, next, none_left, cut_told}
 use Rattle.offsets.proofs.is_cut.Goals as goal
 

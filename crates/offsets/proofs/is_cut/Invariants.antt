@@ -1,12 +1,8 @@
 -- `is_cut` meets its contract. The loop's invariant: from `last` on, the ends still to read pass exactly when all of them do.
-use Prim.Native.Nat.{◌-◌, ◌≤◌, ◌<◌}
-use native.Mathlib.Omega.{arith}
-use mathlib.Core.Path.{◌≡◌, ◌∙◌}
-use mathlib.Core.Bool.{false}
+use Prim.Native.Nat.{◌-◌, ◌≤◌}
+use mathlib.Core.Path.{◌≡◌}
 use lib.ListN.{length, drop}
-use borrow.Author.Rules.{rules}
 use Rattle.offsets.specs.Cut.{ends_from}
-use Rattle.offsets.proofs.CutSteps.{falls, passes, next, none_left, cut_told}
 use Rattle.offsets.proofs.is_cut.Given as goal
 
 abbrev pub invariant-loop-i : goal.invariant-loop-i

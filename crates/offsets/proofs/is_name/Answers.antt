@@ -1,5 +1,4 @@
 -- `is_name` meets its contract, test by test.
-use borrow.Author.Rules.{rules}
 use Rattle.offsets.proofs.NameSteps.{empty_name, long_name, name_told}
 use Rattle.offsets.proofs.is_name.Goals as goal
 

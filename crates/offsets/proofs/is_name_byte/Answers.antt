@@ -1,5 +1,4 @@
 -- `is_name_byte` meets its contract, test by test.
-use borrow.Author.Rules.{rules}
 use Rattle.offsets.proofs.NameSteps.{underscore, ascii, not_ascii}
 use Rattle.offsets.proofs.is_name_byte.Goals as goal
 

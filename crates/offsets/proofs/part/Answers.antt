@@ -3,7 +3,6 @@ use Prim.Native.Nat.{◌-◌}
 use native.Mathlib.Omega.{arith}
 use mathlib.Core.Path.{ap, ◌∙◌}
 use lib.ListN.{get_or}
-use borrow.Author.Rules.{rules}
 use Rattle.common.specs.Bytes.{part}
 use Rattle.offsets.proofs.CutSteps.{no_part, first_part, later_part, empty_part}
 use Rattle.offsets.proofs.part.Goals as goal

@@ -1,9 +1,6 @@
-use Prim.Native.Nat.{◌-◌, ◌≤◌}
 use native.Mathlib.Omega.{arith}
 use mathlib.Core.Path.{◌≡◌, sym, ◌∙◌}
-use lib.ListN.{length, drop}
-use borrow.Author.Rules.{rules}
-use Rattle.offsets.specs.Names.{same_name}
+use lib.ListN.{length}
 use Rattle.offsets.proofs.NameSteps.{other_length, other_byte, same_byte, same_end}
 use Rattle.offsets.proofs.same_name.Goals as goal
 

@@ -1,11 +1,8 @@
 -- `same_name` meets its contract. The loop's invariant: what is left of the two names is the same exactly when the names are.
 use Prim.Native.Nat.{◌-◌, ◌≤◌}
-use native.Mathlib.Omega.{arith}
-use mathlib.Core.Path.{◌≡◌, sym, ◌∙◌}
+use mathlib.Core.Path.{◌≡◌}
 use lib.ListN.{length, drop}
-use borrow.Author.Rules.{rules}
 use Rattle.offsets.specs.Names.{same_name}
-use Rattle.offsets.proofs.NameSteps.{other_length, other_byte, same_byte, same_end}
 use Rattle.offsets.proofs.same_name.Given as goal
 
 abbrev pub invariant-loop-i : goal.invariant-loop-i

@@ -1,8 +1,6 @@
-use Prim.Native.Nat.{ℕ, ◌+◌, ◌-◌, ◌≤◌, ◌<◌}
 use native.Mathlib.Omega.{arith}
 use mathlib.Core.Path.{refl, sym, subst}
 use borrow.Author.Tests.{not-true, not-false}
-use borrow.Author.Rules.{rules}
 use Rattle.common.proofs.Cases.{fails_exactly, false_refutes, same_or}
 use Rattle.opening.specs.Fronts.{Placed, front_at}
 use Rattle.opening.proofs.are_placed.Goals as goal

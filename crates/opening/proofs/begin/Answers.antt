@@ -1,8 +1,6 @@
 -- `opening::begin` meets its contract.
 use native.Mathlib.Omega.{arith}
-use mathlib.Core.Path.{sym, ◌∙◌}
 use borrow.Author.Tests.{not-true, not-false}
-use borrow.Author.Rules.{rules}
 use Rattle.common.proofs.Cases.{false_refutes}
 use Rattle.opening.proofs.Walks.{none_placed}
 use Rattle.opening.proofs.begin.Goals as goal

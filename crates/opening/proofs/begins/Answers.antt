@@ -1,10 +1,6 @@
-use Rattle.opening.specs.Matching.{begins_with}
 use Rattle.opening.proofs.Masks.{begins_next, begins_differs, begins_short, begins_end}
-use mathlib.Core.Path.{◌≡◌, refl, sym, ◌∙◌}
-use Prim.Native.Nat.{◌-◌, ◌≤◌}
+use mathlib.Core.Path.{refl, sym, ◌∙◌}
 use native.Mathlib.Omega.{arith}
-use borrow.Author.Rules.{rules}
-use lib.ListN.{length, drop}
 use Rattle.opening.proofs.begins.Goals as goal
 
 pub returns-then-word-prefix : goal.returns-then-word-prefix

@@ -1,10 +1,7 @@
 -- `opening::begins` meets its contract. The loop's invariant: the first `i` bytes of the prefix and the word are the same.
 use Rattle.opening.specs.Matching.{begins_with}
-use Rattle.opening.proofs.Masks.{begins_next, begins_differs, begins_short, begins_end}
-use mathlib.Core.Path.{◌≡◌, refl, sym, ◌∙◌}
+use mathlib.Core.Path.{◌≡◌}
 use Prim.Native.Nat.{◌-◌, ◌≤◌}
-use native.Mathlib.Omega.{arith}
-use borrow.Author.Rules.{rules}
 use lib.ListN.{length, drop}
 use Rattle.opening.proofs.begins.Given as goal
 

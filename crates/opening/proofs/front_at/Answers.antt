@@ -3,7 +3,6 @@ use Rattle.opening.proofs.Framing.{placed_none}
 use Rattle.opening.proofs.Firsts.{list_not_refused, front_has}
 use mathlib.Core.Path.{sym, ◌∙◌}
 use native.Mathlib.Omega.{arith}
-use borrow.Author.Rules.{rules}
 use Rattle.opening.proofs.front_at.Goals as goal
 
 pub returns-in_default : goal.returns-in_default

@@ -1,20 +1,15 @@
 -- `opening::fronts_of` meets its contract. The loop's invariant: the first `j` leaves have their fronts.
 use Rattle.lexer.specs.Token.{Node}
 use Rattle.leaf.specs.Leaf.{Term, AreLeaves}
-use lib.ListN.{length-set}
 use Rattle.directory.specs.Order.{in_order}
 use Rattle.offsets.specs.Cut.{Cuts, cut}
 use Rattle.opening.specs.Matching.{TextIs}
 use Rattle.opening.specs.Fronts.{front_at, Placed}
-use Rattle.opening.proofs.Taking.{leaf_inside, sought_as}
-use Rattle.opening.proofs.Starting.{Starting, starting_start, starting_more, starting_end, placed_set, placed_all}
-use Rattle.opening.proofs.Framing.{placed_none, placed_within}
-use mathlib.Core.Path.{◌≡◌, refl, ◌∙◌}
+use Rattle.opening.proofs.Starting.{Starting}
+use mathlib.Core.Path.{◌≡◌}
 use mathlib.Core.List.{List, []}
 use Prim.Native.Nat.{ℕ, ◌-◌, ◌≤◌, ◌<◌}
-use native.Mathlib.Omega.{arith}
-use borrow.Author.Rules.{rules}
-use lib.ListN.{length, get_or}
+use lib.ListN.{length}
 use Rattle.opening.proofs.fronts_of.Given as goal
 
 abbrev pub invariant-loop-j : goal.invariant-loop-j

@@ -1,7 +1,6 @@
 -- `opening::is_able` meets its contract.
 use Rattle.common.proofs.Cases.{false_not_true}
 use native.Mathlib.Omega.{arith}
-use borrow.Author.Rules.{rules}
 use Rattle.opening.proofs.is_able.Goals as goal
 
 pub returns-then-order-gt-MAX_LEAVES : goal.returns-then-order-gt-MAX_LEAVES

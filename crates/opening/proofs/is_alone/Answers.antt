@@ -3,7 +3,6 @@ use borrow.Author.Tests.{not-true, not-false}
 use Rattle.common.proofs.Cases.{fails_exactly, false_refutes, false_not_true}
 use mathlib.Core.Path.{sym, ◌∙◌}
 use native.Mathlib.Omega.{arith}
-use borrow.Author.Rules.{rules}
 use Rattle.opening.proofs.is_alone.Goals as goal
 
 pub returns-then-a-eq0 : goal.returns-then-a-eq0

@@ -1,7 +1,6 @@
 -- `opening::is_match` meets its contract.
 use Rattle.opening.proofs.Masks.{star_match, plain_differs, plain_match}
 use mathlib.Core.Path.{◌∙◌}
-use borrow.Author.Rules.{rules}
 use Rattle.opening.proofs.is_match.Goals as goal
 
 pub returns-then-star-ne0 : goal.returns-then-star-ne0

@@ -1,7 +1,6 @@
 -- `is_placed` meets its contract.
 use native.Mathlib.Omega.{arith}
 use borrow.Author.Tests.{lt-ltb, ltb-true}
-use borrow.Author.Rules.{rules}
 use Rattle.common.proofs.Cases.{fails_exactly}
 use Rattle.opening.proofs.is_placed.Goals as goal
 

@@ -4,7 +4,6 @@ use lib.ListN.{length, get_or-eq_default}
 use mathlib.Core.Path.{sym, ◌∙◌}
 use Prim.Native.Nat.{◌-◌, ◌≤◌, ◌<◌}
 use native.Mathlib.Omega.{arith}
-use borrow.Author.Rules.{rules}
 use Rattle.opening.proofs.leaf_start.Goals as goal
 
 pub returns-then-ends-i : goal.returns-then-ends-i

@@ -1,9 +1,7 @@
 use Rattle.opening.specs.Fronts.{front_at}
-use Rattle.opening.proofs.Choosing.{Choosing, choosing_start, choosing_better, choosing_kept, chosen}
+use Rattle.opening.proofs.Choosing.{choosing_start, choosing_better, choosing_kept, chosen}
 use mathlib.Core.Path.{refl, sym, ◌∙◌}
-use Prim.Native.Nat.{◌-◌, ◌≤◌}
 use native.Mathlib.Omega.{arith}
-use borrow.Author.Rules.{rules}
 use Rattle.opening.proofs.least.Goals as goal
 
 pub loop-j-init : goal.loop-j-init

@@ -1,10 +1,6 @@
 -- `opening::least` meets its contract. The loop's invariant: `front`, number `best`, is the least of the first `j` fronts.
-use Rattle.opening.specs.Fronts.{front_at}
-use Rattle.opening.proofs.Choosing.{Choosing, choosing_start, choosing_better, choosing_kept, chosen}
-use mathlib.Core.Path.{refl, sym, ◌∙◌}
+use Rattle.opening.proofs.Choosing.{Choosing}
 use Prim.Native.Nat.{◌-◌, ◌≤◌}
-use native.Mathlib.Omega.{arith}
-use borrow.Author.Rules.{rules}
 use Rattle.opening.proofs.least.Given as goal
 
 abbrev pub invariant-loop-j : goal.invariant-loop-j

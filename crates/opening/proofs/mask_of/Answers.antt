@@ -1,13 +1,9 @@
 use Rattle.common.proofs.Bits.{set_more, set_start, set_fits}
-use Rattle.lexer.specs.Token.{Node}
-use Prim.Native.Nat.{◌^◌}
-use Rattle.opening.specs.Matching.{mask_of, TextIs}
+use Rattle.opening.specs.Matching.{mask_of}
 use Rattle.opening.proofs.Nodes.{ends_room, marks_room, mask_step, mask_none}
 use mathlib.Core.Path.{◌≡◌, ap, ◌∙◌}
-use mathlib.Core.List.{List}
-use Prim.Native.Nat.{ℕ, ◌-◌, ◌≤◌, ◌<◌}
+use Prim.Native.Nat.{ℕ}
 use native.Mathlib.Omega.{arith}
-use borrow.Author.Rules.{rules}
 use lib.ListN.{drop}
 use Rattle.opening.proofs.mask_of.Goals as goal
 

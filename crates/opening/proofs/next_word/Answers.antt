@@ -1,10 +1,8 @@
 -- `opening::next_word` meets its contract.
-use Prim.Native.Nat.{◌≤◌}
 use native.Mathlib.Omega.{arith}
-use mathlib.Core.Path.{◌≡◌, refl, sym, ◌∙◌}
+use mathlib.Core.Path.{refl}
 use mathlib.Core.Logic.{inr}
 use borrow.Author.Tests.{not-true, not-false}
-use borrow.Author.Rules.{rules}
 use Rattle.common.proofs.Cases.{false_refutes}
 use Rattle.opening.specs.Opening.{Arrays, arrays}
 use Rattle.opening.proofs.Framing.{frame_none}

@@ -1,19 +1,11 @@
-use Rattle.lexer.specs.Token.{Node}
-use Rattle.leaf.specs.Leaf.{Term}
 use Rattle.common.proofs.Cases.{false_not_true}
 use borrow.Author.Tests.{not-true, not-false}
-use Rattle.opening.specs.Matching.{TextIs}
-use Rattle.opening.specs.Opening.{LeavesAre, Arrays, arrays, word_size, OpenFrame}
+use Rattle.opening.specs.Opening.{Arrays, arrays, OpenFrame}
 use Rattle.opening.proofs.Framing.{not_opened, frame_none}
-use Rattle.opening.specs.Fronts.{Able}
 use Rattle.opening.proofs.Taking.{able_as, frame_lengths, lengths_back}
-use Rattle.opening.proofs.Collecting.{OpenSoFar, going_start, going_end, going_next}
+use Rattle.opening.proofs.Collecting.{going_start, going_end, going_next}
 use mathlib.Core.Path.{◌≡◌, refl, sym, ◌∙◌, subst}
-use mathlib.Core.List.{List}
-use Prim.Native.Nat.{ℕ, ◌+◌, ◌-◌, ◌*◌, ◌<◌}
 use native.Mathlib.Omega.{arith}
-use borrow.Author.Rules.{rules}
-use lib.ListN.{length}
 use Rattle.opening.proofs.open.Goals as goal
 
 pub returns-then-not-is_able : goal.returns-then-not-is_able

@@ -1,21 +1,13 @@
 -- `opening::seek` meets its contract. The loop's invariant: where terms are left after the front's word, those that match begin
 -- where they begin from `at` on, after the word in `word`.
 use Rattle.lexer.specs.Token.{Node}
-use Rattle.leaf.proofs.Words.{suffix_fits}
 use Rattle.leaf.specs.Leaf.{Term}
-use Rattle.common.specs.Bytes.{part}
-use Rattle.common.proofs.Parts.{part_length}
-use Rattle.common.proofs.Rooms.{paste_length}
 use Rattle.leaf.specs.Rest.{RestIs}
-use Rattle.leaf.proofs.Heads.{head_sound}
-use Rattle.opening.specs.Matching.{mask_of, TextIs}
-use Rattle.opening.proofs.Framing.{placed_none}
-use Rattle.opening.proofs.Seeking.{SeekingWord, seeking_start, seeking_end, seeking_refused, seeking_next, seeking_found}
-use mathlib.Core.Path.{◌≡◌, sym, ap, ◌∙◌}
+use Rattle.opening.specs.Matching.{TextIs}
+use Rattle.opening.proofs.Seeking.{SeekingWord}
+use mathlib.Core.Path.{◌≡◌}
 use mathlib.Core.List.{List, []}
-use Prim.Native.Nat.{ℕ, ◌+◌, ◌-◌, ◌^◌, ◌<◌}
-use native.Mathlib.Omega.{arith}
-use borrow.Author.Rules.{rules}
+use Prim.Native.Nat.{ℕ, ◌-◌}
 use lib.ListN.{length, take}
 use Rattle.opening.proofs.seek.Given as goal
 

@@ -3,7 +3,6 @@ use Rattle.offsets.proofs.Cuts.{start_later}
 use mathlib.Core.Path.{sym}
 use Prim.Native.Nat.{◌-◌, ◌<◌}
 use native.Mathlib.Omega.{arith}
-use borrow.Author.Rules.{rules}
 use Rattle.opening.proofs.start_of.Goals as goal
 
 pub overflow_cast-result : goal.overflow_cast-result

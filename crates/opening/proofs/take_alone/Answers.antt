@@ -9,7 +9,6 @@ use Rattle.opening.proofs.Taking.{leaf_inside, sought_as}
 use Rattle.opening.proofs.Alone.{alone_taken}
 use mathlib.Core.Path.{refl, sym, subst}
 use native.Mathlib.Omega.{arith}
-use borrow.Author.Rules.{rules}
 use lib.ListN.{length, get_or, set}
 use Rattle.opening.proofs.take_alone.Goals as goal
 

@@ -1,18 +1,12 @@
-use Rattle.opening.proofs.Taking.{Taking, Lengths, taking_start, taking_other, taking_full, taking_this, taking_end, leaf_inside, able_more, lengths_more, sought_as, has_place}
+use Rattle.opening.proofs.Taking.{taking_start, taking_other, taking_full, taking_this, taking_end, leaf_inside, able_more, lengths_more, sought_as, has_place}
 use borrow.Author.Tests.{not-true, not-false}
-use Rattle.lexer.specs.Token.{Node}
-use Rattle.leaf.specs.Leaf.{Term}
-use Rattle.cursors.specs.Arrays.{Cursor}
-use Rattle.opening.specs.Matching.{TextIs}
-use Rattle.opening.specs.Fronts.{front_word, front_at, head_lists, FrontsAre, Able, HoldAll}
-use Rattle.opening.specs.Opening.{Arrays, arrays, OpenFrame}
+use Rattle.opening.specs.Fronts.{front_word, front_at}
+use Rattle.opening.specs.Opening.{arrays}
 use Rattle.opening.proofs.Framing.{has_mask, placed_within, frame_more}
-use mathlib.Core.Path.{◌≡◌, refl, sym, ◌∙◌}
-use mathlib.Core.List.{List}
-use Prim.Native.Nat.{ℕ, ◌+◌, ◌-◌, ◌≤◌}
+use mathlib.Core.Path.{refl, sym, ◌∙◌}
 use native.Mathlib.Omega.{arith}
 use borrow.Author.Rules.{rules}
-use lib.ListN.{length, get_or, length-set}
+use lib.ListN.{get_or, length-set}
 use Rattle.opening.proofs.take_word.Goals as goal
 
 pub loop-j-init : goal.loop-j-init

@@ -1,6 +1,5 @@
 -- `opening::with_word` meets its contract.
 use native.Mathlib.Omega.{arith}
-use borrow.Author.Rules.{rules}
 use Rattle.opening.proofs.with_word.Goals as goal
 
 pub returns-then-matched : goal.returns-then-matched

@@ -4,7 +4,6 @@ use Rattle.opening.proofs.Nodes.{node_here}
 use mathlib.Core.Path.{ap, ◌∙◌}
 use Prim.Native.Nat.{ℕ}
 use native.Mathlib.Omega.{arith}
-use borrow.Author.Rules.{rules}
 use lib.ListN.{get_or}
 use Rattle.opening.proofs.word_at.Goals as goal
 

@@ -5,7 +5,6 @@ use mathlib.Core.Path.{ap, ◌∙◌}
 use mathlib.Core.List.{◌++◌}
 use lib.ListN.{length-append, length-take, length-drop, length, take, drop}
 use borrow.Author.Tests.{not-true, not-false}
-use borrow.Author.Rules.{rules}
 use Rattle.common.specs.Bytes.{over}
 use Rattle.varint.specs.Varint.{max_varint, encode}
 use Rattle.varint.proofs.Laws.{encode_most}

@@ -1,9 +1,5 @@
-use Prim.Native.Nat.{◌+◌, ◌-◌, ◌≤◌}
 use native.Mathlib.Omega.{arith}
-use mathlib.Core.Path.{◌≡◌, refl, sym, ◌∙◌}
-use borrow.Author.Rules.{rules}
-use Rattle.common.specs.Bytes.{part, span}
-use Rattle.cursors.specs.Arrays.{is_open}
+use mathlib.Core.Path.{refl, sym, ◌∙◌}
 use Rattle.postings.proofs.Closing.{open_more, open_stop, open_end}
 use Rattle.postings.proofs.close_at.Goals as goal
 

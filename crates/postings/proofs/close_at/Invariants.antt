@@ -1,12 +1,9 @@
 -- `close_at` meets its contract. The loop's invariant: the run of bytes that are not 0 ends where the run from `i` on ends. The measure is what is
 -- left of the list.
 use Prim.Native.Nat.{◌+◌, ◌-◌, ◌≤◌}
-use native.Mathlib.Omega.{arith}
-use mathlib.Core.Path.{◌≡◌, refl, sym, ◌∙◌}
-use borrow.Author.Rules.{rules}
+use mathlib.Core.Path.{◌≡◌}
 use Rattle.common.specs.Bytes.{part, span}
 use Rattle.cursors.specs.Arrays.{is_open}
-use Rattle.postings.proofs.Closing.{open_more, open_stop, open_end}
 use Rattle.postings.proofs.close_at.Given as goal
 
 abbrev pub invariant-loop-i : goal.invariant-loop-i

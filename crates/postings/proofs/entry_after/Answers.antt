@@ -1,6 +1,5 @@
 -- `entry_after` meets its contract: the entry's body closes with its first byte 0, and the next number stands after it.
 use native.Mathlib.Omega.{arith}
-use borrow.Author.Rules.{rules}
 use Rattle.cursors.proofs.Bodies.{span_inside}
 use Rattle.postings.proofs.Closing.{body_ends}
 use Rattle.postings.proofs.entry_after.Goals as goal

@@ -1,7 +1,6 @@
 -- `entry_at` meets its contract: what stands after an entry's body is the next entry of its list, or the list's end.
 use native.Mathlib.Omega.{arith}
 use mathlib.Core.Path.{sym, ◌∙◌}
-use borrow.Author.Rules.{rules}
 use Rattle.varint.proofs.Laws.{next_after}
 use Rattle.postings.proofs.Closing.{none_after, after_read, after_here, at_inside}
 use Rattle.postings.proofs.entry_at.Goals as goal

@@ -1,7 +1,6 @@
-use Prim.Native.Nat.{ℕ, ◌+◌, ◌-◌, ◌≤◌}
+use Prim.Native.Nat.{ℕ, ◌+◌}
 use native.Mathlib.Omega.{arith}
 use mathlib.Core.Path.{◌≡◌, sym, subst}
-use borrow.Author.Rules.{rules}
 use Rattle.postings.specs.Lists.{FirstOf}
 use Rattle.postings.proofs.Choosing.{first_start, first_over}
 use Rattle.postings.proofs.first_of.Goals as goal

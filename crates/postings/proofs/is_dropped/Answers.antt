@@ -1,5 +1,4 @@
 -- `is_dropped` meets its contract.
-use borrow.Author.Rules.{rules}
 use Rattle.postings.proofs.is_dropped.Goals as goal
 
 pub returns : goal.returns

@@ -3,7 +3,6 @@ use Prim.Native.Nat.{min}
 use native.Mathlib.Omega.{arith}
 use mathlib.Core.Path.{◌≡◌, refl, sym, ◌∙◌}
 use borrow.Author.Tests.{eq-eqb, ne_eqb}
-use borrow.Author.Rules.{rules}
 use Rattle.postings.proofs.over_cursor.Goals as goal
 
 pub returns-then-body-eq-NO_BODY : goal.returns-then-body-eq-NO_BODY

@@ -1,5 +1,4 @@
 -- `put_entries` meets its contract: the number, and the body after it.
-use borrow.Author.Rules.{rules}
 use Rattle.varint.specs.Varint.{encode}
 use Rattle.postings.proofs.Fitting.{front_inside, front_more}
 use Rattle.postings.proofs.put_entries.Goals as goal

@@ -3,8 +3,8 @@ use native.Mathlib.Omega.{arith}
 use lib.ListN.{get_or}
 use borrow.Author.Rules.{rules}
 use Rattle.cursors.specs.Groups.{last_key}
-use Rattle.postings.proofs.Choosing.{ahead, ahead_falls}
-use Rattle.postings.proofs.Going.{Going, going_not, going_start, going_end, going_last, going_on}
+use Rattle.postings.proofs.Choosing.{ahead_falls}
+use Rattle.postings.proofs.Going.{going_not, going_start, going_end, going_last, going_on}
 use Rattle.postings.proofs.put_list.Goals as goal
 
 pub returns-then-n-gt-MAX_LEAVES : goal.returns-then-n-gt-MAX_LEAVES

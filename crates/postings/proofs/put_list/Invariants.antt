@@ -1,12 +1,7 @@
 -- `put_list` meets its contract. The loop's invariant, `Going`: the merge below `from` is counted and written, and the cursors stand on what is left
 -- from there on. The measure is how far all cursors may still go: each turn moves one of them.
-use Prim.Native.Nat.{◌≤◌, ◌<◌}
-use native.Mathlib.Omega.{arith}
-use lib.ListN.{get_or}
-use borrow.Author.Rules.{rules}
-use Rattle.cursors.specs.Groups.{last_key}
-use Rattle.postings.proofs.Choosing.{ahead, ahead_falls}
-use Rattle.postings.proofs.Going.{Going, going_not, going_start, going_end, going_last, going_on}
+use Rattle.postings.proofs.Choosing.{ahead}
+use Rattle.postings.proofs.Going.{Going}
 use Rattle.postings.proofs.put_list.Given as goal
 
 abbrev pub invariant-loop-lasts : goal.invariant-loop-lasts

@@ -1,7 +1,6 @@
 -- `store` meets its contract: nothing, or an entry that is stored or is above the largest size.
 use native.Mathlib.Omega.{arith}
 use mathlib.Core.Path.{refl}
-use borrow.Author.Rules.{rules}
 use Rattle.postings.proofs.store.Goals as goal
 
 pub returns-then-turn-eq0 : goal.returns-then-turn-eq0

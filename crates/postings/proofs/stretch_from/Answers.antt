@@ -1,13 +1,8 @@
-use Prim.Native.Nat.{◌+◌, ◌-◌, ◌≤◌, ◌<◌}
+use Prim.Native.Nat.{◌≤◌}
 use native.Mathlib.Omega.{arith}
-use mathlib.Core.List.{List}
 use mathlib.Core.Path.{sym, ◌∙◌}
-use borrow.Author.Rules.{rules}
-use Rattle.doclist.specs.Doclist.{Entry}
 use Rattle.cursors.specs.Groups.{last_key}
-use Rattle.cursors.specs.Arrays.{StandsOn}
 use Rattle.cursors.proofs.Bodies.{span_inside}
-use Rattle.postings.specs.Lists.{Stretched}
 use Rattle.postings.proofs.Stretching.{stretched_first, stretched_next}
 use Rattle.postings.proofs.stretch_from.Goals as goal
 

@@ -1,16 +1,11 @@
 -- `stretch_from` meets its contract. The loop's invariant: the entries up to the one for `at` are taken, and `next` stands on the one after it. The
 -- measure is what is left up to the largest docid.
 use Prim.Native.Nat.{◌+◌, ◌-◌, ◌≤◌, ◌<◌}
-use native.Mathlib.Omega.{arith}
 use mathlib.Core.List.{List}
-use mathlib.Core.Path.{sym, ◌∙◌}
-use borrow.Author.Rules.{rules}
 use Rattle.doclist.specs.Doclist.{Entry}
 use Rattle.cursors.specs.Groups.{last_key}
 use Rattle.cursors.specs.Arrays.{StandsOn}
-use Rattle.cursors.proofs.Bodies.{span_inside}
 use Rattle.postings.specs.Lists.{Stretched}
-use Rattle.postings.proofs.Stretching.{stretched_first, stretched_next}
 use Rattle.postings.proofs.stretch_from.Given as goal
 
 abbrev pub invariant-loop-next : goal.invariant-loop-next

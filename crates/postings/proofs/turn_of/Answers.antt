@@ -3,7 +3,6 @@ use Prim.Native.Nat.{ℕ, ◌+◌, ◌-◌}
 use native.Mathlib.Omega.{arith}
 use mathlib.Core.Logic.{inl, inr}
 use mathlib.Core.Path.{◌≡◌, refl, sym, ◌∙◌, subst}
-use borrow.Author.Rules.{rules}
 use Rattle.cursors.proofs.Bodies.{last_inside}
 use Rattle.postings.specs.Lists.{Stretched}
 use Rattle.postings.proofs.Closing.{dropped_not, dropped_is}

@@ -1,12 +1,10 @@
 use mathlib.Core.Path.{refl, sym, subst}
-use borrow.Author.Rules.{rules}
 use Rattle.offsets.specs.Cut.{cut}
 use Rattle.lexer.specs.Filling.{words_of}
 use Rattle.query.specs.declared.Ops.{Ops}
 use Rattle.query.specs.declared.Parse.{Parse}
 use Rattle.query.specs.Levels.{query_of, Chained}
-use Rattle.query.proofs.Steps.{left_over}
-use Rattle.query.proofs.Operands.{Linking, linking_starts, chain_fails, chain_ends, linking_turns, linking_less}
+use Rattle.query.proofs.Operands.{linking_starts, chain_fails, chain_ends, linking_turns, linking_less}
 use Rattle.query.proofs.chain.Goals as goal
 
 pub loop-left-init : goal.loop-left-init

@@ -1,14 +1,9 @@
 -- `query::chain` meets its contract. The loop's invariant: a chain was read up to the place of `left`, and its words are in the query,
 -- or something was refused.
-use mathlib.Core.Path.{refl, sym, subst}
-use borrow.Author.Rules.{rules}
 use Rattle.offsets.specs.Cut.{cut}
-use Rattle.lexer.specs.Filling.{words_of}
-use Rattle.query.specs.declared.Ops.{Ops}
-use Rattle.query.specs.declared.Parse.{Parse}
-use Rattle.query.specs.Levels.{query_of, Chained}
+use Rattle.query.specs.Levels.{query_of}
 use Rattle.query.proofs.Steps.{left_over}
-use Rattle.query.proofs.Operands.{Linking, linking_starts, chain_fails, chain_ends, linking_turns, linking_less}
+use Rattle.query.proofs.Operands.{Linking}
 use Rattle.query.proofs.chain.Given as goal
 
 abbrev pub invariant-loop-left : goal.invariant-loop-left

@@ -1,6 +1,5 @@
 -- `query::phrase` meets its contract: what the lexer takes is the phrase, and what comes next is looked at.
 use mathlib.Core.Path.{refl}
-use borrow.Author.Rules.{rules}
 use Rattle.offsets.specs.Cut.{cut}
 use Rattle.lexer.specs.Filling.{words_of}
 use Rattle.query.specs.Levels.{ops_of}

@@ -1,6 +1,5 @@
 -- `query::read` meets its contract: each return is what the level of OR, the end of the text and the count of words tell.
 use mathlib.Core.Path.{◌∙◌}
-use borrow.Author.Rules.{rules}
 use borrow.Author.Tests.{not-true, not-false}
 use Rattle.offsets.specs.Cut.{cut}
 use Rattle.query.proofs.Whole.{read_long, read_fails, read_stops, read_full, read_whole}

@@ -1,6 +1,5 @@
 -- `advance` meets its contract: the next position of the hit, or the first one after it.
 use mathlib.Core.Path.{sym, ◌∙◌}
-use borrow.Author.Rules.{rules}
 use Rattle.row.proofs.Rows.{next_kept}
 use Rattle.row.proofs.advance.Goals as goal
 

@@ -1,8 +1,6 @@
 -- `contains` meets its contract: a set of 16 bits has no member from 16 on.
 use native.Mathlib.Omega.{arith}
 use mathlib.Core.Path.{sym}
-use lib.ListN.{set}
-use borrow.Author.Rules.{rules}
 use Rattle.common.proofs.Bits.{contains_past}
 use Rattle.row.proofs.contains.Goals as goal
 

@@ -1,5 +1,4 @@
 -- `first` meets its contract: it starts at the first hit.
-use borrow.Author.Rules.{rules}
 use Rattle.row.proofs.Rows.{first_kept}
 use Rattle.row.proofs.first.Goals as goal
 

@@ -1,8 +1,4 @@
-use Prim.Native.Nat.{◌-◌}
-use mathlib.Core.Path.{◌≡◌, sym, ◌∙◌}
-use lib.ListN.{length, drop}
-use borrow.Author.Rules.{rules}
-use Rattle.row.specs.Walk.{first_of}
+use mathlib.Core.Path.{sym, ◌∙◌}
 use Rattle.row.proofs.Rows.{first_end, first_short, first_open}
 use Rattle.row.proofs.first_from.Goals as goal
 

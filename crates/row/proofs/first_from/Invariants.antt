@@ -1,11 +1,9 @@
 -- `first_from` meets its contract. The loop's invariant: what is found from the hit on is what is found from `from` on. The
 -- measure is the number of hits that are left.
 use Prim.Native.Nat.{◌-◌}
-use mathlib.Core.Path.{◌≡◌, sym, ◌∙◌}
+use mathlib.Core.Path.{◌≡◌}
 use lib.ListN.{length, drop}
-use borrow.Author.Rules.{rules}
 use Rattle.row.specs.Walk.{first_of}
-use Rattle.row.proofs.Rows.{first_end, first_short, first_open}
 use Rattle.row.proofs.first_from.Given as goal
 
 abbrev pub invariant-loop-hit : goal.invariant-loop-hit

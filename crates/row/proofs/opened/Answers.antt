@@ -1,6 +1,5 @@
 -- `opened` meets its contract, test by test.
 use mathlib.Core.Path.{sym, ◌∙◌}
-use borrow.Author.Rules.{rules}
 use Rattle.row.proofs.opened.Goals as goal
 
 pub returns-then-contains : goal.returns-then-contains

@@ -1,7 +1,6 @@
 -- `step_from` meets its contract: each number that is read decides how the reading goes on.
 use mathlib.Core.Path.{sym, ◌∙◌}
 use borrow.Author.Tests.{eq-eqb, ne_eqb}
-use borrow.Author.Rules.{rules}
 use Rattle.row.proofs.step_from.Goals as goal
 
 pub returns-in_default : goal.returns-in_default

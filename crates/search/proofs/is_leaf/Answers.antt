@@ -1,5 +1,4 @@
 -- `is_leaf` meets its contract: of the answers to the check of one leaf only the first says that it keeps every rule.
-use borrow.Author.Rules.{rules}
 use Rattle.search.proofs.Checks.{accepted_leaf, shape_leaf, broken_leaf}
 use Rattle.search.proofs.is_leaf.Goals as goal
 

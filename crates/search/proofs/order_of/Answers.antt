@@ -1,6 +1,5 @@
 -- `order_of` meets its contract, test by test.
 use borrow.Author.Tests.{not-true, not-false}
-use borrow.Author.Rules.{rules}
 use Rattle.common.proofs.Cases.{false_not_true}
 use Rattle.search.proofs.Shapes.{names_wrong, leaves_wrong, many_bytes, shape_told}
 use Rattle.search.proofs.order_of.Goals as goal

@@ -2,7 +2,6 @@
 use native.Mathlib.Omega.{arith}
 use mathlib.Core.Path.{refl}
 use borrow.Author.Tests.{not-true, not-false}
-use borrow.Author.Rules.{rules}
 use Rattle.search.proofs.Shapes.{shape_bounds}
 use Rattle.search.proofs.Indexes.{order_lent, order_room}
 use Rattle.search.proofs.Searches.{shape_refused, query_refused, leaf_refused, room_refused, all_found}

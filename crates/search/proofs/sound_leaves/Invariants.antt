@@ -1,14 +1,10 @@
 -- `sound_leaves` meets its contract. The loop's invariant: the first `i` leaves keep every rule.
 use Prim.Native.Nat.{◌-◌, ◌≤◌}
-use native.Mathlib.Omega.{arith}
-use mathlib.Core.List.{List, []}
+use mathlib.Core.List.{List}
 use lib.ListN.{length, take}
-use borrow.Author.Tests.{not-true, not-false}
-use borrow.Author.Rules.{rules}
 use Rattle.offsets.specs.Cut.{cut}
 use Rattle.leaf.specs.Leaf.{Term, AreLeaves}
 use Rattle.search.specs.Checking.{Checkable}
-use Rattle.search.proofs.Checks.{part_checkable, stopped, went_on, came_through}
 use Rattle.search.proofs.sound_leaves.Given as goal
 
 abbrev pub invariant-loop-i : goal.invariant-loop-i

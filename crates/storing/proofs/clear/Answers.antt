@@ -1,8 +1,6 @@
-use Prim.Native.Nat.{◌-◌, ◌≤◌}
 use native.Mathlib.Omega.{arith}
 use mathlib.Core.Path.{◌≡◌, ap, ◌∙◌}
-use mathlib.Core.List.{◌++◌}
-use lib.ListN.{length, drop, replicate, set}
+use lib.ListN.{length, set}
 use borrow.Author.Fill.{fill_more}
 use Rattle.common.proofs.Rooms.{fill_all}
 use borrow.Author.Rules.{rules}

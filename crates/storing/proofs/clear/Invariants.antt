@@ -1,12 +1,8 @@
 -- `clear` meets its contract. The loop's invariant: the bytes passed are zeros. The measure is what is left of the room.
 use Prim.Native.Nat.{◌-◌, ◌≤◌}
-use native.Mathlib.Omega.{arith}
-use mathlib.Core.Path.{◌≡◌, ap, ◌∙◌}
+use mathlib.Core.Path.{◌≡◌}
 use mathlib.Core.List.{◌++◌}
-use lib.ListN.{length, drop, replicate, set}
-use borrow.Author.Fill.{fill_more}
-use Rattle.common.proofs.Rooms.{fill_all}
-use borrow.Author.Rules.{rules}
+use lib.ListN.{length, drop, replicate}
 use Rattle.storing.proofs.clear.Given as goal
 
 abbrev pub invariant-loop-i : goal.invariant-loop-i

@@ -5,7 +5,6 @@ use lib.ListN.{length}
 use Rattle.varint.specs.Varint.{max_varint}
 use Rattle.varint.proofs.Laws.{encode_most}
 use Rattle.storing.proofs.WordLaws.{parts_length}
-use borrow.Author.Rules.{rules}
 use Rattle.storing.proofs.parts_size.Goals as goal
 use Rattle.storing.proofs.parts_size.Goals.{After-size-2}
 

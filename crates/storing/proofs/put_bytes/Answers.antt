@@ -1,7 +1,6 @@
-use Prim.Native.Nat.{◌-◌}
 use native.Mathlib.Omega.{arith}
-use mathlib.Core.Path.{◌≡◌, sym, ap, ◌∙◌}
-use lib.ListN.{length, get_or, take, set}
+use mathlib.Core.Path.{sym, ap, ◌∙◌}
+use lib.ListN.{get_or, set}
 use lib.Seq.{take_all}
 use Rattle.common.specs.Bytes.{over}
 use Rattle.common.proofs.Rooms.{over_take, fitted_over, fitted_kept}

@@ -1,13 +1,9 @@
 -- `put_bytes` meets its contract. The loop's invariant: the bytes passed stand at the front. The measure is what is left
 -- of them.
 use Prim.Native.Nat.{◌-◌}
-use native.Mathlib.Omega.{arith}
-use mathlib.Core.Path.{◌≡◌, sym, ap, ◌∙◌}
-use lib.ListN.{length, get_or, take, set}
-use lib.Seq.{take_all}
+use mathlib.Core.Path.{◌≡◌}
+use lib.ListN.{length, take}
 use Rattle.common.specs.Bytes.{over}
-use Rattle.common.proofs.Rooms.{over_take, fitted_over, fitted_kept}
-use borrow.Author.Rules.{rules}
 use Rattle.storing.proofs.put_bytes.Given as goal
 
 abbrev pub invariant-loop-i : goal.invariant-loop-i

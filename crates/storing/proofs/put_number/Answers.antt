@@ -8,7 +8,6 @@ use Rattle.common.proofs.Cases.{pick_case}
 use Rattle.varint.specs.Varint.{encode, written_of}
 use Rattle.varint.specs.declared.Written.{Written}
 use Rattle.varint.specs.declared.Written.TheVariants.{Bytes, NoRoom}
-use borrow.Author.Rules.{rules}
 use Rattle.storing.proofs.put_number.Goals as goal
 
 abbrev taken : Written → ℕ

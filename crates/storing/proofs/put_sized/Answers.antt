@@ -6,7 +6,6 @@ use lib.ListN.{length}
 use Rattle.common.proofs.Rooms.{Wrote, wrote_first, wrote_within, fitted_more}
 use Rattle.varint.specs.Varint.{encode}
 use Rattle.leaf.proofs.Words.{sized_length}
-use borrow.Author.Rules.{rules}
 use Rattle.storing.proofs.put_sized.Goals as goal
 use Rattle.storing.proofs.put_sized.Goals.{After-put_number-at, Start}
 

@@ -11,7 +11,6 @@ use Rattle.leaf.specs.Leaf.{sized}
 use Rattle.leaf.proofs.Words.{shared_most}
 use Rattle.storing.specs.Words.{word_bytes}
 use Rattle.storing.proofs.WordLaws.{word_parts}
-use borrow.Author.Rules.{rules}
 use Rattle.storing.proofs.put_word.Goals as goal
 use Rattle.storing.proofs.put_word.Goals.{After-parts_size-need, After-put_number-at, After-shared_prefix-prefix, Else-out-need}
 

@@ -1,10 +1,5 @@
-use Prim.Native.Nat.{◌+◌, ◌-◌}
-use mathlib.Core.Path.{◌≡◌}
 use native.Mathlib.Omega.{arith}
-use lib.ListN.{length, drop}
-use Rattle.leaf.specs.Leaf.{shared}
 use Rattle.storing.proofs.WordLaws.{first_ended, second_ended, differs, one_more}
-use borrow.Author.Rules.{rules}
 use Rattle.storing.proofs.shared_prefix.Goals as goal
 
 pub returns-then-w-i : goal.returns-then-w-i

@@ -2,11 +2,8 @@
 -- makes up the rest. The measure is what is left of the first word.
 use Prim.Native.Nat.{◌+◌, ◌-◌}
 use mathlib.Core.Path.{◌≡◌}
-use native.Mathlib.Omega.{arith}
 use lib.ListN.{length, drop}
 use Rattle.leaf.specs.Leaf.{shared}
-use Rattle.storing.proofs.WordLaws.{first_ended, second_ended, differs, one_more}
-use borrow.Author.Rules.{rules}
 use Rattle.storing.proofs.shared_prefix.Given as goal
 
 abbrev pub invariant-loop-i : goal.invariant-loop-i

@@ -5,7 +5,6 @@ use mathlib.Core.Path.{ap, ◌∙◌}
 use lib.ListN.{length}
 use Rattle.leaf.proofs.Words.{shared_most}
 use Rattle.storing.proofs.WordLaws.{word_parts}
-use borrow.Author.Rules.{rules}
 use Rattle.storing.proofs.word_size.Goals as goal
 use Rattle.storing.proofs.word_size.Goals.{After-shared_prefix-prefix}
 

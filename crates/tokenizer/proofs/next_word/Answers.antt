@@ -1,6 +1,5 @@
 -- `tokenizer::next_word` meets its contract: the two searches give where the next word begins and ends.
 use native.Mathlib.Omega.{arith}
-use borrow.Author.Rules.{rules}
 use Rattle.tokenizer.proofs.Laws.{answer_nothing, answer_found, answer_overlong}
 use Rattle.tokenizer.proofs.next_word.Goals as goal
 

@@ -1,9 +1,4 @@
-use Prim.Native.Nat.{◌-◌}
-use native.Mathlib.Omega.{arith}
-use mathlib.Core.Path.{◌≡◌, refl, sym, ◌∙◌}
-use lib.ListN.{length}
-use borrow.Author.Rules.{rules}
-use Rattle.tokenizer.specs.Word.{word_start}
+use mathlib.Core.Path.{refl, sym, ◌∙◌}
 use Rattle.tokenizer.proofs.Laws.{start_end, start_stop, start_more}
 use Rattle.tokenizer.proofs.skip_separators.Goals as goal
 

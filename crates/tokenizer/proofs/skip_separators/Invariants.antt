@@ -1,12 +1,9 @@
 -- `tokenizer::skip_separators` meets its contract. The loop's invariant: the first word byte from `i` on is the first
 -- from `at` on.
 use Prim.Native.Nat.{◌-◌}
-use native.Mathlib.Omega.{arith}
-use mathlib.Core.Path.{◌≡◌, refl, sym, ◌∙◌}
+use mathlib.Core.Path.{◌≡◌}
 use lib.ListN.{length}
-use borrow.Author.Rules.{rules}
 use Rattle.tokenizer.specs.Word.{word_start}
-use Rattle.tokenizer.proofs.Laws.{start_end, start_stop, start_more}
 use Rattle.tokenizer.proofs.skip_separators.Given as goal
 
 abbrev pub invariant-loop-i : goal.invariant-loop-i

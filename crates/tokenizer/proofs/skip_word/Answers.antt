@@ -1,9 +1,5 @@
-use Prim.Native.Nat.{◌-◌}
-use native.Mathlib.Omega.{arith}
-use mathlib.Core.Path.{◌≡◌, refl, sym, ◌∙◌}
-use lib.ListN.{length}
-use borrow.Author.Rules.{rules}
-use Rattle.common.proofs.Runs.{past, past_end, past_stop, past_more}
+use mathlib.Core.Path.{refl, sym, ◌∙◌}
+use Rattle.common.proofs.Runs.{past_end, past_stop, past_more}
 use Rattle.tokenizer.specs.Word.{is_word}
 use Rattle.tokenizer.proofs.skip_word.Goals as goal
 

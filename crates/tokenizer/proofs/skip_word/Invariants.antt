@@ -1,11 +1,9 @@
 -- `tokenizer::skip_word` meets its contract. The loop's invariant: the run of word bytes from `i` on ends where the
 -- run from `at` on ends.
 use Prim.Native.Nat.{◌-◌}
-use native.Mathlib.Omega.{arith}
-use mathlib.Core.Path.{◌≡◌, refl, sym, ◌∙◌}
+use mathlib.Core.Path.{◌≡◌}
 use lib.ListN.{length}
-use borrow.Author.Rules.{rules}
-use Rattle.common.proofs.Runs.{past, past_end, past_stop, past_more}
+use Rattle.common.proofs.Runs.{past}
 use Rattle.tokenizer.specs.Word.{is_word}
 use Rattle.tokenizer.proofs.skip_word.Given as goal
 

@@ -1,7 +1,6 @@
 use native.Mathlib.Omega.{arith}
-use borrow.Author.Rules.{rules}
 use Rattle.varint.specs.Varint.{max_varint}
-use Rattle.varint.proofs.Writing.{Begun, begin, begun_within, begun_more, begun_last}
+use Rattle.varint.proofs.Writing.{begin, begun_within, begun_more, begun_last}
 use Rattle.varint.proofs.put.Goals as goal
 
 pub loop-rest-init : goal.loop-rest-init

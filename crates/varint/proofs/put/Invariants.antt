@@ -1,9 +1,7 @@
 -- `put` meets its contract. The loop's invariant: the first `i` bytes stand at the front of the room, and the others are
 -- those of `rest`. The measure is `rest`.
-use native.Mathlib.Omega.{arith}
-use borrow.Author.Rules.{rules}
 use Rattle.varint.specs.Varint.{max_varint}
-use Rattle.varint.proofs.Writing.{Begun, begin, begun_within, begun_more, begun_last}
+use Rattle.varint.proofs.Writing.{Begun}
 use Rattle.varint.proofs.put.Given as goal
 
 abbrev pub invariant-loop-rest : goal.invariant-loop-rest

@@ -2,9 +2,8 @@ use Prim.Native.Nat.{◌-◌}
 use native.Mathlib.Omega.{arith}
 use mathlib.Core.Path.{refl, sym, ap, ◌∙◌}
 use lib.ListN.{get_or}
-use borrow.Author.Rules.{rules}
 use Rattle.varint.specs.Varint.{fitting}
-use Rattle.varint.proofs.Steps.{none_left, past_end, long_zero, Reading, over_not, tenth_over, digit_fits, scale_fits, reading_last, reading_zero, reading_more}
+use Rattle.varint.proofs.Steps.{none_left, past_end, long_zero, over_not, tenth_over, digit_fits, scale_fits, reading_last, reading_zero, reading_more}
 use Rattle.varint.proofs.Laws.{reads_stored}
 use Rattle.varint.proofs.read_long.Goals as goal
 

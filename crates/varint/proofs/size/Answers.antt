@@ -1,9 +1,8 @@
 use native.Mathlib.Omega.{arith}
-use borrow.Author.Rules.{rules}
 use borrow.Author.Tests.{ltb-true, ltb-false}
 use mathlib.Core.Path.{sym}
 use Rattle.varint.specs.Varint.{max_varint}
-use Rattle.varint.proofs.Writing.{AtByte, first_byte, next_byte, last_byte, full}
+use Rattle.varint.proofs.Writing.{first_byte, next_byte, last_byte, full}
 use Rattle.varint.proofs.size.Goals as goal
 
 pub loop-rest-init : goal.loop-rest-init

@@ -1,11 +1,7 @@
 -- `size` meets its contract. The loop's invariant: the byte that comes next is the `n`th, and holds the lowest bits of
 -- `rest`. The measure is `rest`.
-use native.Mathlib.Omega.{arith}
-use borrow.Author.Rules.{rules}
-use borrow.Author.Tests.{ltb-true, ltb-false}
-use mathlib.Core.Path.{sym}
 use Rattle.varint.specs.Varint.{max_varint}
-use Rattle.varint.proofs.Writing.{AtByte, first_byte, next_byte, last_byte, full}
+use Rattle.varint.proofs.Writing.{AtByte}
 use Rattle.varint.proofs.size.Given as goal
 
 abbrev pub invariant-loop-rest : goal.invariant-loop-rest

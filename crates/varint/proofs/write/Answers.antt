@@ -1,6 +1,5 @@
 -- `write` meets its contract: each answer is the case of `written_of` that its test leaves.
 use native.Mathlib.Omega.{arith}
-use borrow.Author.Rules.{rules}
 use Rattle.varint.proofs.Writing.{no_room, written}
 use Rattle.varint.proofs.write.Goals as goal
 

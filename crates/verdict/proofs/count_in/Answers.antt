@@ -1,13 +1,9 @@
-use Prim.Native.Nat.{◌+◌, ◌-◌, ◌≤◌}
 use native.Mathlib.Omega.{arith}
 use mathlib.Core.Path.{◌≡◌, sym, ap, ◌∙◌}
-use mathlib.Core.List.{map}
-use lib.ListN.{length, get_or, drop}
+use lib.ListN.{get_or}
 use lib.IntN.{pos}
-use borrow.Author.Rules.{rules}
 use Rattle.common.specs.Bytes.{within}
 use Rattle.doclist.specs.Docid.{key_of}
-use Rattle.verdict.specs.Counting.{count_in}
 use Rattle.verdict.proofs.Shown.{key_read, count_row, count_other, count_ended}
 use Rattle.verdict.proofs.count_in.Goals as goal
 use Rattle.verdict.proofs.count_in.Goals.{then-is_within, else-is_within}

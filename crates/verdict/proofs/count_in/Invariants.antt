@@ -1,16 +1,10 @@
 -- `count_in` meets its contract. The invariant: what was counted, and the rows of the run still ahead, are all of them.
 use Prim.Native.Nat.{◌+◌, ◌-◌, ◌≤◌}
-use native.Mathlib.Omega.{arith}
-use mathlib.Core.Path.{◌≡◌, sym, ap, ◌∙◌}
-use mathlib.Core.Logic.{⊎_elim}
+use mathlib.Core.Path.{◌≡◌}
 use mathlib.Core.List.{map}
-use lib.ListN.{length, get_or, drop}
-use lib.IntN.{pos}
-use borrow.Author.Rules.{rules}
-use Rattle.common.specs.Bytes.{within}
+use lib.ListN.{length, drop}
 use Rattle.doclist.specs.Docid.{key_of}
 use Rattle.verdict.specs.Counting.{count_in}
-use Rattle.verdict.proofs.Shown.{key_read, count_row, count_other, count_ended}
 use Rattle.verdict.proofs.count_in.Given as goal
 
 abbrev pub invariant-loop-i : goal.invariant-loop-i

@@ -1,6 +1,5 @@
 -- `is_hit` meets its contract.
 use mathlib.Core.Path.{sym, ◌∙◌}
-use borrow.Author.Rules.{rules}
 use Rattle.common.proofs.Cases.{fails_exactly}
 use Rattle.verdict.proofs.is_hit.Goals as goal
 

@@ -1,6 +1,5 @@
 -- `judge` meets its contract: a row in two lists, or the four counts.
 use native.Mathlib.Omega.{arith}
-use borrow.Author.Rules.{rules}
 use Rattle.verdict.proofs.Counting.{rows_left, judged_counted, judged_twice}
 use Rattle.verdict.proofs.judge.Goals as goal
 

@@ -1,16 +1,14 @@
-use Prim.Native.Nat.{◌+◌, ◌-◌, ◌≤◌}
 use native.Mathlib.Omega.{arith}
 use mathlib.Core.Path.{sym, ap, ◌∙◌, subst}
 use mathlib.Core.Bool.{true}
 use lib.IntN.{pos}
-use lib.ListN.{length, get_or}
-use borrow.Author.Rules.{rules}
+use lib.ListN.{get_or}
 use Rattle.common.specs.Bytes.{within}
 use Rattle.common.proofs.Cases.{false_refutes}
 use Rattle.verdict.specs.Counting.{SharedIs}
 use Rattle.verdict.proofs.Runs.{within_exactly}
 use Rattle.verdict.proofs.Shown.{key_read}
-use Rattle.verdict.proofs.Sharing.{Ahead, left_ended, right_ended, right_on, left_on, shared_here}
+use Rattle.verdict.proofs.Sharing.{left_ended, right_ended, right_on, left_on, shared_here}
 use Rattle.verdict.proofs.least_shared.Goals as goal
 
 pub loop-i-init : goal.loop-i-init

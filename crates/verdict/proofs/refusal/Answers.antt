@@ -1,6 +1,5 @@
 -- `refusal` meets its contract, answer by answer.
 use mathlib.Core.Path.{sym, ap}
-use borrow.Author.Rules.{rules}
 use Rattle.verdict.specs.Counting.{refusal_of}
 use Rattle.verdict.proofs.refusal.Goals as goal
 

@@ -1,6 +1,5 @@
 -- `sheet_of` meets its contract: the first refusal, or what the lists say.
 use borrow.Enum.Refused.{opened}
-use borrow.Author.Rules.{rules}
 use Rattle.verdict.proofs.Sheets.{refused_by, found_by, front_fits, front_shown, lists_decide}
 use Rattle.verdict.proofs.sheet_of.Goals as goal
 

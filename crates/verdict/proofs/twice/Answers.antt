@@ -1,6 +1,5 @@
 -- `twice` meets its contract: the earliest of the three pairs' findings.
 use mathlib.Core.Path.{sym, ap, ◌∙◌, subst}
-use borrow.Author.Rules.{rules}
 use Rattle.verdict.specs.Counting.{TwiceIs, earlier_of}
 use Rattle.verdict.proofs.Sharing.{twice_finds}
 use Rattle.verdict.proofs.twice.Goals as goal

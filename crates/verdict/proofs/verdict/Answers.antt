@@ -1,6 +1,5 @@
 -- `verdict` meets its contract: the run, then the three searches, then what their lists say.
 use mathlib.Core.Path.{sym, ◌∙◌}
-use borrow.Author.Rules.{rules}
 use borrow.Author.Tests.{not-true, not-false}
 use Rattle.common.proofs.Cases.{false_refutes}
 use Rattle.verdict.proofs.Shown.{key_read}

@@ -1,12 +1,7 @@
-use Prim.Native.Nat.{◌+◌, ◌-◌}
-use native.Mathlib.Omega.{arith}
-use mathlib.Core.Path.{◌≡◌, sym, ◌∙◌}
-use lib.ListN.{length, drop}
+use mathlib.Core.Path.{sym, ◌∙◌}
 use Rattle.offsets.specs.Cut.{cut}
 use Rattle.offsets.proofs.Cuts.{in_cut, past_cut}
-use Rattle.writer.specs.Answers.{first_overlong}
 use Rattle.writer.proofs.Answering.{columns_end, column_found, column_passed}
-use borrow.Author.Rules.{rules}
 use Rattle.writer.proofs.first_overlong.Goals as goal
 
 pub returns-then-has_overlong : goal.returns-then-has_overlong

@@ -1,14 +1,10 @@
 -- `first_overlong` meets its contract. The loop's invariant: the columns passed have no word over 64 bytes. The measure is
 -- what is left of the ends.
 use Prim.Native.Nat.{◌+◌, ◌-◌}
-use native.Mathlib.Omega.{arith}
-use mathlib.Core.Path.{◌≡◌, sym, ◌∙◌}
+use mathlib.Core.Path.{◌≡◌}
 use lib.ListN.{length, drop}
 use Rattle.offsets.specs.Cut.{cut}
-use Rattle.offsets.proofs.Cuts.{in_cut, past_cut}
 use Rattle.writer.specs.Answers.{first_overlong}
-use Rattle.writer.proofs.Answering.{columns_end, column_found, column_passed}
-use borrow.Author.Rules.{rules}
 use Rattle.writer.proofs.first_overlong.Given as goal
 
 abbrev pub invariant-loop-i : goal.invariant-loop-i

@@ -1,14 +1,8 @@
-use Prim.Native.Nat.{◌-◌}
 use native.Mathlib.Omega.{arith}
-use mathlib.Core.Path.{◌≡◌, sym, ◌∙◌}
-use mathlib.Core.List.{map}
-use lib.ListN.{length}
-use Rattle.tokenizer.specs.Word.{places_from, word_at, words_of}
+use mathlib.Core.Path.{sym, ◌∙◌}
 use Rattle.tokenizer.proofs.Laws.{found_bounds, nothing_first}
 use Rattle.tokenizer.proofs.Runs.{places_end}
-use Rattle.writer.specs.Answers.{has_overlong}
 use Rattle.writer.proofs.Answering.{passes_short, finds_overlong, finds_none}
-use borrow.Author.Rules.{rules}
 use Rattle.writer.proofs.has_overlong.Goals as goal
 
 pub loop-at-smaller : goal.loop-at-smaller

@@ -1,16 +1,11 @@
 -- `has_overlong` meets its contract. The loop's invariant: what is asked of all words is asked of those from `at` on. The
 -- measure is what is left of the text.
 use Prim.Native.Nat.{◌-◌}
-use native.Mathlib.Omega.{arith}
-use mathlib.Core.Path.{◌≡◌, sym, ◌∙◌}
+use mathlib.Core.Path.{◌≡◌}
 use mathlib.Core.List.{map}
 use lib.ListN.{length}
 use Rattle.tokenizer.specs.Word.{places_from, word_at, words_of}
-use Rattle.tokenizer.proofs.Laws.{found_bounds, nothing_first}
-use Rattle.tokenizer.proofs.Runs.{places_end}
 use Rattle.writer.specs.Answers.{has_overlong}
-use Rattle.writer.proofs.Answering.{passes_short, finds_overlong, finds_none}
-use borrow.Author.Rules.{rules}
 use Rattle.writer.proofs.has_overlong.Given as goal
 
 abbrev pub invariant-loop-at : goal.invariant-loop-at

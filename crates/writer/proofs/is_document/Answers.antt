@@ -1,6 +1,5 @@
 -- `is_document` meets its contract: each answer is the test that failed, or the last one.
 use Rattle.writer.proofs.Answering.{refused_none, refused_many, refused_long, told_by_ends}
-use borrow.Author.Rules.{rules}
 use Rattle.writer.proofs.is_document.Goals as goal
 
 pub returns-then-ends-eq0 : goal.returns-then-ends-eq0

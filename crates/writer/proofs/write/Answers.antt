@@ -7,7 +7,6 @@ use mir.Facts.{to_z-of_z}
 use Rattle.doclist.specs.Docid.{key_of}
 use Rattle.writer.specs.Answers.{is_document}
 use Rattle.writer.proofs.Rules.{kept_shape, kept_overlong, writing, kept_leaf}
-use borrow.Author.Rules.{rules}
 use Rattle.writer.proofs.write.Goals as goal
 use Rattle.writer.proofs.write.Goals.{Else-not-is_document}
 

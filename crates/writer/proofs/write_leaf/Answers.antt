@@ -9,7 +9,6 @@ use Rattle.offsets.specs.Cut.{cut}
 use Rattle.document.specs.Document.{document_leaf}
 use Rattle.writer.specs.Stored.{terms_of, Table}
 use Rattle.writer.proofs.LeafWriting.{gatherable, rows_within, rows_table, rows_leaf, answer_room, answer_written, array_long}
-use borrow.Author.Rules.{rules}
 use Rattle.writer.proofs.write_leaf.Goals as goal
 use Rattle.writer.proofs.write_leaf.Goals.{After-gather-n, After-terms_size-need}
 

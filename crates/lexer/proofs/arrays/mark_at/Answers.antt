@@ -1,7 +1,6 @@
 -- The function meets its contract: each return is the test that led there, and past the end stands no star.
 use lib.ListN.{get_or, get_or-eq_default}
 use borrow.Author.Tests.{eq-eqb, ne_eqb}
-use borrow.Author.Rules.{rules}
 use Rattle.lexer.specs.Tokens.{star_byte}
 use Rattle.lexer.proofs.arrays.mark_at.Goals as goal
 

@@ -1,5 +1,4 @@
 -- The function meets its contract: a word that has no room makes the count one that no query has, and any other is added.
-use borrow.Author.Rules.{rules}
 use Rattle.lexer.specs.Filling.{words_of, text_end, overfull}
 use Rattle.lexer.proofs.WordLaws.{push_full, push_past, push_added}
 use Rattle.lexer.proofs.arrays.push.Goals as goal

@@ -1,12 +1,9 @@
 use native.Mathlib.Nat.{le_of_lt}
 use native.Mathlib.Omega.{arith}
-use mathlib.Core.Path.{◌≡◌, refl, sym, ◌∙◌}
-use lib.ListN.{length}
-use borrow.Author.Rules.{rules}
-use Rattle.tokenizer.specs.Word.{places_from}
+use mathlib.Core.Path.{refl, sym, ◌∙◌}
 use Rattle.tokenizer.proofs.Laws.{found_bounds}
-use Rattle.lexer.specs.Filling.{words_of, overfull, push_words}
-use Rattle.lexer.proofs.PhraseSteps.{word_short, fewer_left, entries_from, found_pushed, overlong_pushed, nothing_pushed}
+use Rattle.lexer.specs.Filling.{words_of, overfull}
+use Rattle.lexer.proofs.PhraseSteps.{word_short, fewer_left, found_pushed, overlong_pushed, nothing_pushed}
 use Rattle.lexer.proofs.arrays.push_phrase.Goals as goal
 
 pub loop-start-init : goal.loop-start-init

@@ -1,14 +1,10 @@
 -- The function meets its contract. The invariant: what is pushed so far, and the words from `at` on, are all words.
 -- The measure: how many words are left.
-use native.Mathlib.Nat.{le_of_lt}
-use native.Mathlib.Omega.{arith}
-use mathlib.Core.Path.{◌≡◌, refl, sym, ◌∙◌}
+use mathlib.Core.Path.{◌≡◌}
 use lib.ListN.{length}
-use borrow.Author.Rules.{rules}
 use Rattle.tokenizer.specs.Word.{places_from}
-use Rattle.tokenizer.proofs.Laws.{found_bounds}
-use Rattle.lexer.specs.Filling.{words_of, overfull, push_words}
-use Rattle.lexer.proofs.PhraseSteps.{word_short, fewer_left, entries_from, found_pushed, overlong_pushed, nothing_pushed}
+use Rattle.lexer.specs.Filling.{words_of, push_words}
+use Rattle.lexer.proofs.PhraseSteps.{entries_from}
 use Rattle.lexer.proofs.arrays.push_phrase.Given as goal
 
 abbrev pub invariant-loop-start : goal.invariant-loop-start

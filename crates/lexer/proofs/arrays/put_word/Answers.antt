@@ -1,9 +1,7 @@
-use Prim.Native.Nat.{◌-◌, ◌≤◌}
 use native.Mathlib.Omega.{arith}
-use mathlib.Core.Path.{◌≡◌, refl, ◌∙◌}
-use lib.ListN.{length, length-set}
-use borrow.Author.Rules.{rules}
-use Rattle.lexer.proofs.WordLaws.{writing, writing_none, writing_more, writing_all}
+use mathlib.Core.Path.{refl, ◌∙◌}
+use lib.ListN.{length-set}
+use Rattle.lexer.proofs.WordLaws.{writing_none, writing_more, writing_all}
 use Rattle.lexer.proofs.arrays.put_word.Goals as goal
 
 pub loop-i-init : goal.loop-i-init

@@ -1,10 +1,8 @@
 -- The function meets its contract. The invariant: the first i bytes are written.
 use Prim.Native.Nat.{◌-◌, ◌≤◌}
-use native.Mathlib.Omega.{arith}
-use mathlib.Core.Path.{◌≡◌, refl, ◌∙◌}
-use lib.ListN.{length, length-set}
-use borrow.Author.Rules.{rules}
-use Rattle.lexer.proofs.WordLaws.{writing, writing_none, writing_more, writing_all}
+use mathlib.Core.Path.{◌≡◌}
+use lib.ListN.{length}
+use Rattle.lexer.proofs.WordLaws.{writing}
 use Rattle.lexer.proofs.arrays.put_word.Given as goal
 
 abbrev pub invariant-loop-i : goal.invariant-loop-i

@@ -1,6 +1,5 @@
 -- The function meets its contract: with no word the text is empty, else the last end tells.
 use borrow.Author.Tests.{eq-eqb, ne_eqb}
-use borrow.Author.Rules.{rules}
 use Rattle.lexer.proofs.arrays.text_end.Goals as goal
 
 pub returns-then-count-eq0 : goal.returns-then-count-eq0

@@ -1,7 +1,7 @@
 use native.Mathlib.Omega.{arith}
 use mathlib.Core.Path.{◌∙◌}
 use borrow.Author.Tests.{not-true, not-false}
-use Rattle.merge.proofs.Stepping.{Alone, alone_start, alone_on, alone_out}
+use Rattle.merge.proofs.Stepping.{alone_start, alone_on, alone_out}
 use Rattle.merge.proofs.words.go_alone.Goals as goal
 
 pub loop-stored-init : goal.loop-stored-init

@@ -1,8 +1,5 @@
 -- `go_alone` meets its contract. The loop's invariant, `Alone`: some words of the leaf that leads were added. The measure is the steps that are left.
-use native.Mathlib.Omega.{arith}
-use mathlib.Core.Path.{◌∙◌}
-use borrow.Author.Tests.{not-true, not-false}
-use Rattle.merge.proofs.Stepping.{Alone, alone_start, alone_on, alone_out}
+use Rattle.merge.proofs.Stepping.{Alone}
 use Rattle.merge.proofs.words.go_alone.Given as goal
 
 abbrev pub invariant-loop-stored : goal.invariant-loop-stored

@@ -3,7 +3,6 @@ use native.Mathlib.Omega.{arith}
 use mathlib.Core.Path.{◌∙◌}
 use borrow.Author.Tests.{not-true, not-false}
 use Rattle.merge.proofs.Stepping.{round_ran, round_ends, round_steps}
-use borrow.Author.Rules.{rules}
 use Rattle.merge.proofs.words.go_on.Goals as goal
 
 pub returns-then-ran-left : goal.returns-then-ran-left

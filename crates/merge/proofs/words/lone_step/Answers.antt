@@ -1,7 +1,6 @@
 -- `lone_step` meets its contract: the leaf that leads has no word before its rival's, or one more is added.
 use borrow.Author.Tests.{not-true, not-false}
 use Rattle.merge.proofs.Stepping.{lone_none, lone_on}
-use borrow.Author.Rules.{rules}
 use Rattle.merge.proofs.words.lone_step.Goals as goal
 
 pub returns-then-not-lone : goal.returns-then-not-lone

@@ -1,6 +1,5 @@
 -- `put_term` meets its contract: the list is measured first, then all is put into the room if it fits.
 use native.Mathlib.Omega.{arith}
-use borrow.Author.Rules.{rules}
 use Rattle.varint.specs.Varint.{max_varint}
 use Rattle.varint.proofs.Laws.{encode_most}
 use Rattle.storing.proofs.WordLaws.{word_bytes_most}

@@ -1,5 +1,4 @@
 -- `put_term_at` meets its contract: the room from the place on is lent.
-use borrow.Author.Rules.{rules}
 use Rattle.merge.proofs.Putting.{term_lent}
 use Rattle.merge.proofs.words.put_term_at.Goals as goal
 

@@ -1,6 +1,5 @@
 -- `put_terms` meets its contract: the query that every word matches is lent.
 use Rattle.merge.proofs.Every.{every_text}
-use borrow.Author.Rules.{rules}
 use Rattle.merge.proofs.words.put_terms.Goals as goal
 
 pub returns : goal.returns

@@ -1,6 +1,5 @@
 use native.Mathlib.Omega.{arith}
-use Rattle.merge.proofs.Stepping.{Looping, loop_start, loop_on, loop_out, loop_ends}
-use borrow.Author.Rules.{rules}
+use Rattle.merge.proofs.Stepping.{loop_start, loop_on, loop_out, loop_ends}
 use Rattle.merge.proofs.words.put_words.Goals as goal
 
 pub loop-stored-init : goal.loop-stored-init

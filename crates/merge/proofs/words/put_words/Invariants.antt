@@ -1,8 +1,6 @@
 -- `put_words` meets its contract. The loop's invariant, `Looping`: the merge goes on with fewer words left than steps, or it is whole. The measure is the
 -- steps that are left.
-use native.Mathlib.Omega.{arith}
-use Rattle.merge.proofs.Stepping.{Looping, loop_start, loop_on, loop_out, loop_ends}
-use borrow.Author.Rules.{rules}
+use Rattle.merge.proofs.Stepping.{Looping}
 use Rattle.merge.proofs.words.put_words.Given as goal
 
 abbrev pub invariant-loop-stored : goal.invariant-loop-stored

@@ -1,6 +1,5 @@
 -- `step` meets its contract: no word is left, or one more is added.
 use Rattle.merge.proofs.Stepping.{step_ends, step_on}
-use borrow.Author.Rules.{rules}
 use Rattle.merge.proofs.words.step.Goals as goal
 
 pub returns-then-next-eq0 : goal.returns-then-next-eq0

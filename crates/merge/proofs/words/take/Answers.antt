@@ -1,7 +1,6 @@
 -- `take` meets its contract: the next word of all leaves.
 use native.Mathlib.Omega.{arith}
 use Rattle.merge.proofs.Stepping.{every_taken}
-use borrow.Author.Rules.{rules}
 use Rattle.merge.proofs.words.take.Goals as goal
 
 pub returns : goal.returns

@@ -1,5 +1,4 @@
 -- `query::postfix::push` meets its contract.
-use borrow.Author.Rules.{rules}
 use borrow.Author.Tests.{lt-ltb, le-ltb}
 use Rattle.query.specs.Levels.{push_code}
 use Rattle.query.proofs.postfix.push.Goals as goal

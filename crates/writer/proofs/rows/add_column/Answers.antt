@@ -1,13 +1,11 @@
 use borrow.Enum.Refused.{opened}
-use Prim.Native.Nat.{◌-◌}
 use native.Mathlib.Omega.{arith}
 use mathlib.Core.Path.{sym, subst, ◌∙◌}
 use lib.ListN.{length}
 use Rattle.tokenizer.proofs.Laws.{found_bounds}
 use Rattle.tokenizer.proofs.Runs.{places_end}
 use Rattle.writer.specs.Rows.{RowInside}
-use Rattle.writer.proofs.Gathering.{Adding, adding_none, adding_last, adding_fits, adding_inside, adding_more, no_more, words_most}
-use borrow.Author.Rules.{rules}
+use Rattle.writer.proofs.Gathering.{adding_none, adding_last, adding_fits, adding_inside, adding_more, no_more, words_most}
 use Rattle.writer.proofs.rows.add_column.Goals as goal
 
 pub loop-at-init : goal.loop-at-init

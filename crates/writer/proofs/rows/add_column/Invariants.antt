@@ -1,14 +1,8 @@
 -- `add_column` meets its contract. The loop's invariant: the words before `at` are added. The measure is what is left of
 -- the text.
 use Prim.Native.Nat.{◌-◌}
-use native.Mathlib.Omega.{arith}
-use mathlib.Core.Path.{sym, subst, ◌∙◌}
 use lib.ListN.{length}
-use Rattle.tokenizer.proofs.Laws.{found_bounds}
-use Rattle.tokenizer.proofs.Runs.{places_end}
-use Rattle.writer.specs.Rows.{RowInside}
-use Rattle.writer.proofs.Gathering.{Adding, adding_none, adding_last, adding_fits, adding_inside, adding_more, no_more, words_most}
-use borrow.Author.Rules.{rules}
+use Rattle.writer.proofs.Gathering.{Adding}
 use Rattle.writer.proofs.rows.add_column.Given as goal
 
 abbrev pub invariant-loop-at : goal.invariant-loop-at

@@ -1,9 +1,4 @@
-use Prim.Native.Nat.{◌-◌}
 use native.Mathlib.Omega.{arith}
-use mathlib.Core.Path.{◌≡◌}
-use mathlib.Core.List.{map}
-use lib.ListN.{length, take}
-use Rattle.common.specs.Bytes.{over}
 use Rattle.common.proofs.Rooms.{over_map_next, over_map_all}
 use Rattle.tokenizer.specs.Word.{fold}
 use borrow.Author.Rules.{rules}

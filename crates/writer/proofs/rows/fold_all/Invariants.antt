@@ -1,14 +1,11 @@
 -- `fold_all` meets its contract. The loop's invariant: the bytes passed stand folded at the front. The measure is what is
 -- left of the texts.
 use Prim.Native.Nat.{◌-◌}
-use native.Mathlib.Omega.{arith}
 use mathlib.Core.Path.{◌≡◌}
 use mathlib.Core.List.{map}
 use lib.ListN.{length, take}
 use Rattle.common.specs.Bytes.{over}
-use Rattle.common.proofs.Rooms.{over_map_next, over_map_all}
 use Rattle.tokenizer.specs.Word.{fold}
-use borrow.Author.Rules.{rules}
 use Rattle.writer.proofs.rows.fold_all.Given as goal
 
 abbrev pub invariant-loop-i : goal.invariant-loop-i

@@ -1,8 +1,5 @@
-use Prim.Native.Nat.{◌-◌}
 use native.Mathlib.Omega.{arith}
-use lib.ListN.{length}
-use Rattle.writer.proofs.Gathering.{Gathering, gathering_none, gathering_all, gathering_adds, gathering_more}
-use borrow.Author.Rules.{rules}
+use Rattle.writer.proofs.Gathering.{gathering_none, gathering_all, gathering_adds, gathering_more}
 use Rattle.writer.proofs.rows.gather.Goals as goal
 
 pub loop-i-init : goal.loop-i-init

@@ -1,10 +1,8 @@
 -- `gather` meets its contract. The loop's invariant: the columns before number `i` are gathered. The measure is what is
 -- left of the ends.
 use Prim.Native.Nat.{◌-◌}
-use native.Mathlib.Omega.{arith}
 use lib.ListN.{length}
-use Rattle.writer.proofs.Gathering.{Gathering, gathering_none, gathering_all, gathering_adds, gathering_more}
-use borrow.Author.Rules.{rules}
+use Rattle.writer.proofs.Gathering.{Gathering}
 use Rattle.writer.proofs.rows.gather.Given as goal
 
 abbrev pub invariant-loop-i : goal.invariant-loop-i

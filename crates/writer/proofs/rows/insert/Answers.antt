@@ -3,7 +3,6 @@ use native.Mathlib.Omega.{arith}
 use mathlib.Core.Path.{sym}
 use lib.Seq.{length-take-le}
 use Rattle.writer.proofs.Inserting.{place_within, inserted}
-use borrow.Author.Rules.{rules}
 use Rattle.writer.proofs.rows.insert.Goals as goal
 
 pub slice_bounds-place-end-2 : goal.slice_bounds-place-end-2

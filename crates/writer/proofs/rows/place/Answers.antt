@@ -1,12 +1,9 @@
-use Prim.Native.Nat.{◌-◌}
 use native.Mathlib.Omega.{arith}
-use mathlib.Core.Path.{◌≡◌, sym, ◌∙◌}
-use lib.ListN.{length, get_or}
-use Rattle.common.specs.Bytes.{span}
-use Rattle.common.proofs.Runs.{past, past_end, past_stop, past_more}
+use mathlib.Core.Path.{sym, ◌∙◌}
+use lib.ListN.{get_or}
+use Rattle.common.proofs.Runs.{past_end, past_stop, past_more}
 use Rattle.writer.specs.Rows.{not_before}
 use Rattle.writer.proofs.Inserting.{place_found, place_passed}
-use borrow.Author.Rules.{rules}
 use Rattle.writer.proofs.rows.place.Goals as goal
 
 pub word_of-requires : goal.word_of-requires

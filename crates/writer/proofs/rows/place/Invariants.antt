@@ -1,14 +1,11 @@
 -- `place` meets its contract. The loop's invariant: the run of rows that are passed goes on from `i`. The measure is what
 -- is left of the rows.
 use Prim.Native.Nat.{◌-◌}
-use native.Mathlib.Omega.{arith}
-use mathlib.Core.Path.{◌≡◌, sym, ◌∙◌}
-use lib.ListN.{length, get_or}
+use mathlib.Core.Path.{◌≡◌}
+use lib.ListN.{length}
 use Rattle.common.specs.Bytes.{span}
-use Rattle.common.proofs.Runs.{past, past_end, past_stop, past_more}
+use Rattle.common.proofs.Runs.{past}
 use Rattle.writer.specs.Rows.{not_before}
-use Rattle.writer.proofs.Inserting.{place_found, place_passed}
-use borrow.Author.Rules.{rules}
 use Rattle.writer.proofs.rows.place.Given as goal
 
 abbrev pub invariant-loop-i : goal.invariant-loop-i

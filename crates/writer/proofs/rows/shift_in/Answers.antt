@@ -1,8 +1,7 @@
-use Prim.Native.Nat.{◌+◌, ◌-◌, ◌≤◌, ◌<◌}
+use Prim.Native.Nat.{◌≤◌, ◌<◌}
 use native.Mathlib.Omega.{arith}
 use lib.ListN.{length}
-use Rattle.writer.proofs.Inserting.{Moved, moved_start, moved_more, moved_all}
-use borrow.Author.Rules.{rules}
+use Rattle.writer.proofs.Inserting.{moved_start, moved_more, moved_all}
 use Rattle.writer.proofs.rows.shift_in.Goals as goal
 
 pub loop-i-init : goal.loop-i-init

@@ -1,10 +1,8 @@
 -- `shift_in` meets its contract. The loop's invariant: the rows passed are in place, and the one carried comes next. The
 -- measure is what is left up to `n`.
-use Prim.Native.Nat.{◌+◌, ◌-◌, ◌≤◌, ◌<◌}
-use native.Mathlib.Omega.{arith}
+use Prim.Native.Nat.{◌+◌, ◌-◌, ◌≤◌}
 use lib.ListN.{length}
-use Rattle.writer.proofs.Inserting.{Moved, moved_start, moved_more, moved_all}
-use borrow.Author.Rules.{rules}
+use Rattle.writer.proofs.Inserting.{Moved}
 use Rattle.writer.proofs.rows.shift_in.Given as goal
 
 abbrev pub invariant-loop-i : goal.invariant-loop-i

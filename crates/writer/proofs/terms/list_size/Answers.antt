@@ -1,13 +1,11 @@
-use Prim.Native.Nat.{◌+◌, ◌-◌}
 use native.Mathlib.Omega.{arith}
-use mathlib.Core.Path.{◌≡◌, ap}
-use lib.ListN.{length, drop, length-append}
+use mathlib.Core.Path.{ap}
+use lib.ListN.{length, length-append}
 use Rattle.varint.specs.Varint.{encode}
 use Rattle.doclist.specs.Docid.{bits_of}
 use Rattle.doclist.specs.Doclist.{encode_all}
-use Rattle.writer.specs.Stored.{numbers_from, list_bytes, Rises}
+use Rattle.writer.specs.Stored.{numbers_from}
 use Rattle.writer.proofs.Lists.{list_most, rises_end, rises_here, rises_next, numbers_next_length}
-use borrow.Author.Rules.{rules}
 use Rattle.writer.proofs.terms.list_size.Goals as goal
 
 pub loop-i-init : goal.loop-i-init

@@ -1,15 +1,10 @@
 -- `list_size` meets its contract. The loop's invariant: what the rows passed take, and what the others take, make up the
 -- whole. The measure is what is left of the rows.
 use Prim.Native.Nat.{◌+◌, ◌-◌}
-use native.Mathlib.Omega.{arith}
-use mathlib.Core.Path.{◌≡◌, ap}
-use lib.ListN.{length, drop, length-append}
-use Rattle.varint.specs.Varint.{encode}
-use Rattle.doclist.specs.Docid.{bits_of}
+use mathlib.Core.Path.{◌≡◌}
+use lib.ListN.{length, drop}
 use Rattle.doclist.specs.Doclist.{encode_all}
 use Rattle.writer.specs.Stored.{numbers_from, list_bytes, Rises}
-use Rattle.writer.proofs.Lists.{list_most, rises_end, rises_here, rises_next, numbers_next_length}
-use borrow.Author.Rules.{rules}
 use Rattle.writer.proofs.terms.list_size.Given as goal
 
 abbrev pub invariant-loop-i : goal.invariant-loop-i

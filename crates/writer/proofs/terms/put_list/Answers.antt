@@ -1,16 +1,15 @@
-use Prim.Native.Nat.{ℕ, ◌+◌, ◌-◌, ◌≤◌}
+use Prim.Native.Nat.{◌+◌, ◌-◌, ◌≤◌}
 use native.Mathlib.Omega.{arith}
-use mathlib.Core.Path.{◌≡◌, refl, sym, ap, ◌∙◌}
-use mathlib.Core.List.{List, ◌++◌, append_assoc}
+use mathlib.Core.Path.{refl, sym, ap, ◌∙◌}
+use mathlib.Core.List.{◌++◌, append_assoc}
 use lib.ListN.{length, get_or, take, drop, length-append}
 use Rattle.common.specs.Bytes.{over, fitted}
 use Rattle.common.proofs.Rooms.{Wrote, wrote_first, wrote_length, wrote_within, wrote_free, wrote_more, wrote_again, wrote_under, fitted_more}
 use Rattle.varint.specs.Varint.{encode}
 use Rattle.doclist.specs.Docid.{bits_of}
 use Rattle.doclist.specs.Doclist.{encode_all}
-use Rattle.writer.specs.Stored.{row_numbers, numbers_from, list_bytes, Rises}
+use Rattle.writer.specs.Stored.{row_numbers, numbers_from, list_bytes}
 use Rattle.writer.proofs.Lists.{rises_end, rises_here, rises_next, numbers_next, numbers_next_length}
-use borrow.Author.Rules.{rules}
 use Rattle.writer.proofs.terms.put_list.Goals as goal
 use Rattle.writer.proofs.terms.put_list.Goals.{After-loop-i, After-put_number, After-put_number-at, At-loop-i, In-loop-i}
 

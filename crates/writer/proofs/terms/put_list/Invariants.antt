@@ -1,18 +1,14 @@
 -- `put_list` meets its contract. The loop's invariant: what is written, with the bytes of the rows that are left, is the
 -- list. The measure is what is left of the rows.
-use Prim.Native.Nat.{ℕ, ◌+◌, ◌-◌, ◌≤◌}
-use native.Mathlib.Omega.{arith}
-use mathlib.Core.Path.{◌≡◌, refl, sym, ap, ◌∙◌}
-use mathlib.Core.List.{List, ◌++◌, append_assoc}
-use lib.ListN.{length, get_or, take, drop, length-append}
-use Rattle.common.specs.Bytes.{over, fitted}
-use Rattle.common.proofs.Rooms.{Wrote, wrote_first, wrote_length, wrote_within, wrote_free, wrote_more, wrote_again, wrote_under, fitted_more}
+use Prim.Native.Nat.{ℕ, ◌-◌, ◌≤◌}
+use mathlib.Core.Path.{◌≡◌}
+use mathlib.Core.List.{List, ◌++◌}
+use lib.ListN.{length, drop}
+use Rattle.common.proofs.Rooms.{Wrote}
 use Rattle.varint.specs.Varint.{encode}
 use Rattle.doclist.specs.Docid.{bits_of}
 use Rattle.doclist.specs.Doclist.{encode_all}
-use Rattle.writer.specs.Stored.{row_numbers, numbers_from, list_bytes, Rises}
-use Rattle.writer.proofs.Lists.{rises_end, rises_here, rises_next, numbers_next, numbers_next_length}
-use borrow.Author.Rules.{rules}
+use Rattle.writer.specs.Stored.{numbers_from, list_bytes, Rises}
 use Rattle.writer.proofs.terms.put_list.Given as goal
 
 abbrev pub invariant-loop-i : goal.invariant-loop-i

@@ -7,7 +7,6 @@ use Rattle.common.proofs.Rooms.{Wrote, wrote_first, wrote_within, wrote_free, wr
 use Rattle.varint.specs.Varint.{encode}
 use Rattle.leaf.proofs.Words.{sized_length}
 use Rattle.writer.specs.Stored.{list_bytes}
-use borrow.Author.Rules.{rules}
 use Rattle.writer.proofs.terms.put_postings.Goals as goal
 use Rattle.writer.proofs.terms.put_postings.Goals.{After-put_number-at}
 

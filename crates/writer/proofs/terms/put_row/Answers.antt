@@ -10,7 +10,6 @@ use Rattle.varint.specs.Varint.{encode}
 use Rattle.doclist.specs.Doclist.{encode_all}
 use Rattle.writer.specs.Stored.{row_numbers}
 use Rattle.writer.proofs.Lists.{row_same, row_other, row_other_length}
-use borrow.Author.Rules.{rules}
 use Rattle.writer.proofs.terms.put_row.Goals as goal
 use Rattle.writer.proofs.terms.put_row.Goals.{After-position_of, After-put_number-at, After-put_number-at-2, Else-column-column_of}
 

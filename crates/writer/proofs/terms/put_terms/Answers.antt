@@ -1,7 +1,7 @@
-use Prim.Native.Nat.{ℕ, ◌+◌, ◌-◌, ◌≤◌, ◌<◌}
+use Prim.Native.Nat.{◌+◌, ◌-◌, ◌≤◌, ◌<◌}
 use native.Mathlib.Omega.{arith}
 use mathlib.Core.Path.{◌≡◌, refl, sym, ap, ◌∙◌}
-use mathlib.Core.List.{List, [], ◌++◌, append_assoc, append-nil}
+use mathlib.Core.List.{[], ◌++◌, append_assoc, append-nil}
 use lib.ListN.{length, get_or, take, drop, length-append}
 use Rattle.common.specs.Bytes.{over, fitted}
 use Rattle.common.proofs.Rooms.{Wrote, wrote_length, wrote_within, wrote_free, wrote_more, fitted_more}
@@ -9,8 +9,7 @@ use Rattle.leaf.specs.Leaf.{sized}
 use Rattle.storing.specs.Words.{word_bytes}
 use Rattle.writer.specs.Rows.{row_word}
 use Rattle.writer.specs.Stored.{list_bytes, terms_from, terms_of}
-use Rattle.writer.proofs.TermLaws.{AtRun, runs_start, runs_end, run_inside, run_within, run_rows, runs_next, runs_term}
-use borrow.Author.Rules.{rules}
+use Rattle.writer.proofs.TermLaws.{runs_start, runs_end, run_inside, run_within, run_rows, runs_next, runs_term}
 use Rattle.writer.proofs.terms.put_terms.Goals as goal
 use Rattle.writer.proofs.terms.put_terms.Goals.{After-put_postings-at, After-put_word-at, After-run}
 

@@ -1,18 +1,12 @@
 -- `put_terms` meets its contract. The loop's invariant: what is written, with the terms of the rows that are left, is the
 -- whole. The measure is what is left of the rows.
-use Prim.Native.Nat.{ℕ, ◌+◌, ◌-◌, ◌≤◌, ◌<◌}
-use native.Mathlib.Omega.{arith}
-use mathlib.Core.Path.{◌≡◌, refl, sym, ap, ◌∙◌}
-use mathlib.Core.List.{List, [], ◌++◌, append_assoc, append-nil}
-use lib.ListN.{length, get_or, take, drop, length-append}
-use Rattle.common.specs.Bytes.{over, fitted}
-use Rattle.common.proofs.Rooms.{Wrote, wrote_length, wrote_within, wrote_free, wrote_more, fitted_more}
-use Rattle.leaf.specs.Leaf.{sized}
-use Rattle.storing.specs.Words.{word_bytes}
-use Rattle.writer.specs.Rows.{row_word}
-use Rattle.writer.specs.Stored.{list_bytes, terms_from, terms_of}
-use Rattle.writer.proofs.TermLaws.{AtRun, runs_start, runs_end, run_inside, run_within, run_rows, runs_next, runs_term}
-use borrow.Author.Rules.{rules}
+use Prim.Native.Nat.{ℕ, ◌-◌}
+use mathlib.Core.Path.{◌≡◌}
+use mathlib.Core.List.{List, ◌++◌}
+use lib.ListN.{length, drop}
+use Rattle.common.proofs.Rooms.{Wrote}
+use Rattle.writer.specs.Stored.{terms_from, terms_of}
+use Rattle.writer.proofs.TermLaws.{AtRun}
 use Rattle.writer.proofs.terms.put_terms.Given as goal
 
 abbrev pub invariant-loop-i : goal.invariant-loop-i

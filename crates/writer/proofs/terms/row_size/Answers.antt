@@ -6,7 +6,6 @@ use lib.ListN.{length}
 use Rattle.varint.specs.Varint.{max_varint}
 use Rattle.varint.proofs.Laws.{encode_most}
 use Rattle.writer.proofs.Lists.{row_same, row_other_length}
-use borrow.Author.Rules.{rules}
 use Rattle.writer.proofs.terms.row_size.Goals as goal
 
 pub returns-then-column-column_of : goal.returns-then-column-column_of

@@ -1,12 +1,9 @@
-use Prim.Native.Nat.{◌-◌}
 use native.Mathlib.Omega.{arith}
-use mathlib.Core.Path.{◌≡◌, sym, ap, ◌∙◌}
-use lib.ListN.{length}
+use mathlib.Core.Path.{sym, ap, ◌∙◌}
 use borrow.Author.Tests.{not-true, not-false}
-use Rattle.common.specs.Bytes.{span, same}
-use Rattle.common.proofs.Runs.{past, past_end, past_stop, past_more}
+use Rattle.common.specs.Bytes.{same}
+use Rattle.common.proofs.Runs.{past_end, past_stop, past_more}
 use Rattle.writer.specs.Rows.{same_word}
-use borrow.Author.Rules.{rules}
 use Rattle.writer.proofs.terms.run.Goals as goal
 
 pub word_of-requires : goal.word_of-requires

@@ -7,7 +7,6 @@ use Rattle.varint.proofs.Laws.{encode_most}
 use Rattle.storing.proofs.WordLaws.{word_bytes_most}
 use Rattle.writer.proofs.Lists.{list_most}
 use Rattle.writer.proofs.TermLaws.{term_sized}
-use borrow.Author.Rules.{rules}
 use Rattle.writer.proofs.terms.term_size.Goals as goal
 use Rattle.writer.proofs.terms.term_size.Goals.{After-size, After-word_size}
 

@@ -1,11 +1,10 @@
-use Prim.Native.Nat.{ℕ, ◌+◌, ◌-◌, ◌≤◌, ◌<◌}
+use Prim.Native.Nat.{◌+◌, ◌-◌, ◌≤◌, ◌<◌}
 use native.Mathlib.Omega.{arith}
 use mathlib.Core.Path.{◌≡◌, refl, ap, ◌∙◌}
 use lib.ListN.{length, get_or, take, drop, length-append}
 use Rattle.writer.specs.Rows.{row_word}
-use Rattle.writer.specs.Stored.{term_of, terms_from, terms_of}
-use Rattle.writer.proofs.TermLaws.{terms_most, AtRun, runs_start, runs_end, run_inside, run_within, run_rows, runs_next, runs_term}
-use borrow.Author.Rules.{rules}
+use Rattle.writer.specs.Stored.{term_of, terms_from}
+use Rattle.writer.proofs.TermLaws.{terms_most, runs_start, runs_end, run_inside, run_within, run_rows, runs_next, runs_term}
 use Rattle.writer.proofs.terms.terms_size.Goals as goal
 use Rattle.writer.proofs.terms.terms_size.Goals.{After-run, After-term_size-total}
 

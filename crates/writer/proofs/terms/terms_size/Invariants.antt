@@ -1,13 +1,10 @@
 -- `terms_size` meets its contract. The loop's invariant: what the runs passed take, and what the others take, make up the
 -- whole. The measure is what is left of the rows.
-use Prim.Native.Nat.{ℕ, ◌+◌, ◌-◌, ◌≤◌, ◌<◌}
-use native.Mathlib.Omega.{arith}
-use mathlib.Core.Path.{◌≡◌, refl, ap, ◌∙◌}
-use lib.ListN.{length, get_or, take, drop, length-append}
-use Rattle.writer.specs.Rows.{row_word}
-use Rattle.writer.specs.Stored.{term_of, terms_from, terms_of}
-use Rattle.writer.proofs.TermLaws.{terms_most, AtRun, runs_start, runs_end, run_inside, run_within, run_rows, runs_next, runs_term}
-use borrow.Author.Rules.{rules}
+use Prim.Native.Nat.{ℕ, ◌+◌, ◌-◌}
+use mathlib.Core.Path.{◌≡◌}
+use lib.ListN.{length, drop}
+use Rattle.writer.specs.Stored.{terms_from, terms_of}
+use Rattle.writer.proofs.TermLaws.{AtRun}
 use Rattle.writer.proofs.terms.terms_size.Given as goal
 
 abbrev pub invariant-loop-i : goal.invariant-loop-i
