@@ -3,7 +3,6 @@ use Prim.Native.Nat.{ℕ, ◌%◌, ◌^◌}
 use native.Mathlib.Nat.{mod-lt}
 use native.Mathlib.Omega.{arith}
 use mathlib.Core.Path.{sym, ap, ◌∙◌}
-use borrow.Author.Rules.{rules}
 use Rattle.varint.specs.Varint.{on_varint}
 use Rattle.varint.specs.declared.Varint.{Varint}
 use Rattle.timing.proofs.number.Goals as goal

@@ -1,8 +1,5 @@
-use Prim.Native.Nat.{◌-◌}
 use native.Mathlib.Omega.{arith}
-use borrow.Author.Rules.{rules}
-use lib.ListN.{length}
-use Rattle.timing.proofs.Sums.{Summed, summed_none, summed_more, summed_all}
+use Rattle.timing.proofs.Sums.{summed_none, summed_more, summed_all}
 use Rattle.timing.proofs.timed_numbers.Goals as goal
 
 pub loop-i-init : goal.loop-i-init

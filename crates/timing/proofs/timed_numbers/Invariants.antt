@@ -1,9 +1,7 @@
 -- `timed_numbers` meets its contract. The invariant: `sum` holds the numbers at the first `i` places.
 use Prim.Native.Nat.{◌-◌}
-use native.Mathlib.Omega.{arith}
-use borrow.Author.Rules.{rules}
 use lib.ListN.{length}
-use Rattle.timing.proofs.Sums.{Summed, summed_none, summed_more, summed_all}
+use Rattle.timing.proofs.Sums.{Summed}
 use Rattle.timing.proofs.timed_numbers.Given as goal
 
 abbrev pub invariant-loop-i : goal.invariant-loop-i
