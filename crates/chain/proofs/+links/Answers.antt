@@ -1,3 +1,4 @@
+-- `links` meets its contract: the goals that tactics leave open. Its measure stands in Invariants.antt.
 use Rattle.std.proofs.Common.{ℕ, ◌+◌, get_or, false, subst}
 use Rattle.chain.specs.Reaching.{source_of, Steps}
 use Rattle.chain.specs.Going.{Continues}

@@ -1,3 +1,4 @@
+-- `lower_bound` meets its contract: the goals that tactics leave open. What its loops keep stands in Invariants.antt.
 use Prim.Native.Nat.{◌+◌, ◌-◌, ◌/◌}
 use native.Mathlib.Omega.{arith}
 use Rattle.chain.proofs.Keys.{halving_first, halving_up, halving_down, halving_done}

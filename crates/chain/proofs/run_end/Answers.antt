@@ -1,3 +1,4 @@
+-- `run_end` meets its contract: the goals that tactics leave open. What its loops keep stands in Invariants.antt.
 use native.Mathlib.Omega.{arith}
 use mathlib.Core.Path.{sym, ◌∙◌}
 use Rattle.common.specs.Bytes.{within}

@@ -1,3 +1,4 @@
+-- `stands_in` meets its contract: the goals that tactics leave open. What its loops keep stands in Invariants.antt.
 use mathlib.Core.Path.{sym, ◌∙◌}
 use Rattle.row.proofs.Rows.{walk_falls}
 use Rattle.chain.proofs.Walks.{seeking_first, seeking_done, seeking_here, seeking_next}

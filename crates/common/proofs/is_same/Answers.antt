@@ -1,3 +1,4 @@
+-- `is_same` meets its contract: the goals that tactics leave open. What its loops keep stands in Invariants.antt.
 use native.Mathlib.Omega.{arith}
 use mathlib.Core.Path.{refl, sym, ◌∙◌}
 use Rattle.common.proofs.Same.{same_long, same_more, same_differs, same_end}

@@ -1,3 +1,4 @@
+-- `advance` meets its contract: the goals that tactics leave open. What its loops keep stands in Invariants.antt.
 use lib.ListN.{length-set, get_or, take}
 use Rattle.common.specs.Bytes.{part}
 use Rattle.common.proofs.Cases.{false_not_true}

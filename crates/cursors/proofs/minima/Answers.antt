@@ -1,3 +1,4 @@
+-- `minima` meets its contract: the goals that tactics leave open. What its loops keep stands in Invariants.antt.
 use lib.ListN.{length-set}
 use Rattle.common.specs.Bytes.{part}
 use Rattle.common.proofs.Frames.{kept_all, kept_set}

@@ -1,3 +1,4 @@
+-- `open_bytes` meets its contract: the goals that tactics leave open. What its loops keep stands in Invariants.antt.
 use mathlib.Core.Path.{sym, ◌∙◌}
 use Rattle.common.proofs.Runs.{past_end, past_stop, past_more}
 use Rattle.cursors.specs.Arrays.{is_open}

@@ -1,3 +1,4 @@
+-- `place_from` meets its contract: the goals that tactics leave open. What its loops keep stands in Invariants.antt.
 use mathlib.Core.Path.{refl}
 use native.Mathlib.Omega.{arith}
 use Rattle.cursors.proofs.Passing.{remains_next, remains_end}

@@ -1,3 +1,4 @@
+-- `take_block` meets its contract: the goals that tactics leave open. What its loops keep stands in Invariants.antt.
 use lib.ListN.{length-set, get_or, set}
 use Rattle.cursors.specs.Scanning.{over_other, over_hit, joined, BlockTaken, Scanned}
 use Rattle.cursors.proofs.Blocks.{block_begun, block_other, block_hit}

@@ -1,3 +1,4 @@
+-- `close` meets its contract: the goals that tactics leave open. What its loops keep stands in Invariants.antt.
 use native.Mathlib.Omega.{arith}
 use mathlib.Core.Path.{sym, ◌∙◌}
 use Rattle.doclist.proofs.Spots.{closing_refused, closing_ends, closing_broken, closing_small, closing_more}

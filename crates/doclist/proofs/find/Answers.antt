@@ -1,3 +1,4 @@
+-- `find` meets its contract: the goals that tactics leave open. What its loops keep stands in Invariants.antt.
 use borrow.Enum.Refused.{opened}
 use Rattle.common.proofs.Numbers.{within_low, within_high}
 use Rattle.common.specs.Bounds.{max_columns}

@@ -1,3 +1,4 @@
+-- `is_conjunction` meets its contract: the goals that tactics leave open. What its loops keep stands in Invariants.antt.
 use native.Mathlib.Omega.{arith}
 use mathlib.Core.Path.{refl, sym, ◌∙◌}
 use Rattle.evaluate.proofs.Needing.{plain_end, plain_more, plain_stop}

@@ -1,3 +1,4 @@
+-- `is_before` meets its contract: the goals that tactics leave open. What its loops keep stands in Invariants.antt.
 use mathlib.Core.Path.{refl, sym, ◌∙◌}
 use Rattle.leaf.proofs.Orders.{before_ends, before_less, before_more, before_next, before_rest}
 use Rattle.leaf.proofs.is_before.Goals as goal

@@ -1,3 +1,4 @@
+-- `put_suffix` meets its contract: the goals that tactics leave open. What its loops keep stands in Invariants.antt.
 use Prim.Native.Nat.{ℕ, ◌+◌, ◌<◌}
 use native.Mathlib.Numerals.{add-one}
 use native.Mathlib.Omega.{arith}

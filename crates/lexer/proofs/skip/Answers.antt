@@ -1,3 +1,4 @@
+-- `skip` meets its contract: the goals that tactics leave open. What its loops keep stands in Invariants.antt.
 use mathlib.Core.Path.{refl, sym, ◌∙◌}
 use borrow.Author.Tests.{not-true, not-false}
 use Rattle.common.proofs.Runs.{past_end, past_stop, past_more}

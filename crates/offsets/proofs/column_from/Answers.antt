@@ -1,3 +1,4 @@
+-- `column_from` meets its contract: the goals that tactics leave open. What its loops keep stands in Invariants.antt.
 use native.Mathlib.Omega.{arith}
 use mathlib.Core.Path.{sym, ap, ◌∙◌}
 use Rattle.offsets.specs.Cut.{cut}

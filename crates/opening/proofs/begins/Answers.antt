@@ -1,3 +1,4 @@
+-- `begins` meets its contract: the goals that tactics leave open. What its loops keep stands in Invariants.antt.
 use Rattle.opening.proofs.Masks.{begins_next, begins_differs, begins_short, begins_end}
 use mathlib.Core.Path.{refl, sym, ◌∙◌}
 use native.Mathlib.Omega.{arith}

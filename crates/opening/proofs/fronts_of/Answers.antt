@@ -1,3 +1,4 @@
+-- `fronts_of` meets its contract: the goals that tactics leave open. What its loops keep stands in Invariants.antt.
 use lib.ListN.{length-set}
 use Rattle.opening.proofs.Taking.{leaf_inside, sought_as}
 use Rattle.opening.proofs.Starting.{starting_start, starting_more, starting_end, placed_set, placed_all}

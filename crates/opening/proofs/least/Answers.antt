@@ -1,3 +1,4 @@
+-- `least` meets its contract: the goals that tactics leave open. What its loops keep stands in Invariants.antt.
 use Rattle.opening.specs.Fronts.{front_at}
 use Rattle.opening.proofs.Choosing.{choosing_start, choosing_better, choosing_kept, chosen}
 use mathlib.Core.Path.{refl, sym, ◌∙◌}

@@ -1,3 +1,4 @@
+-- `mask_of` meets its contract: the goals that tactics leave open. What its loops keep stands in Invariants.antt.
 use Rattle.common.proofs.Bits.{set_more, set_start, set_fits}
 use Rattle.opening.specs.Matching.{mask_of}
 use Rattle.opening.proofs.Nodes.{ends_room, marks_room, mask_step, mask_none}

@@ -1,3 +1,4 @@
+-- `open` meets its contract: the goals that tactics leave open. What its loops keep stands in Invariants.antt.
 use Rattle.common.proofs.Cases.{false_not_true}
 use borrow.Author.Tests.{not-true, not-false}
 use Rattle.opening.specs.Opening.{Arrays, arrays, OpenFrame}

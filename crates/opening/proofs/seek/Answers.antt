@@ -1,3 +1,4 @@
+-- `seek` meets its contract: the goals that tactics leave open. What its loops keep stands in Invariants.antt.
 use Rattle.leaf.proofs.Words.{suffix_fits}
 use Rattle.common.specs.Bytes.{part}
 use Rattle.common.proofs.Parts.{part_length}

@@ -1,3 +1,4 @@
+-- `take_word` meets its contract: the goals that tactics leave open. What its loops keep stands in Invariants.antt.
 use Rattle.opening.proofs.Taking.{taking_start, taking_other, taking_full, taking_this, taking_end, leaf_inside, able_more, lengths_more, sought_as, has_place}
 use borrow.Author.Tests.{not-true, not-false}
 use Rattle.opening.specs.Fronts.{front_word, front_at}

@@ -1,3 +1,4 @@
+-- `close_at` meets its contract: the goals that tactics leave open. What its loops keep stands in Invariants.antt.
 use native.Mathlib.Omega.{arith}
 use mathlib.Core.Path.{refl, sym, ◌∙◌}
 use Rattle.postings.proofs.Closing.{open_more, open_stop, open_end}

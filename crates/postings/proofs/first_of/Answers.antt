@@ -1,3 +1,4 @@
+-- `first_of` meets its contract: the goals that tactics leave open. What its loops keep stands in Invariants.antt.
 use Prim.Native.Nat.{ℕ, ◌+◌}
 use native.Mathlib.Omega.{arith}
 use mathlib.Core.Path.{◌≡◌, sym, subst}

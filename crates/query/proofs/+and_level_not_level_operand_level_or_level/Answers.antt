@@ -1,3 +1,4 @@
+-- The four levels meet their contracts: the goals that tactics leave open. Their measures and what their loops keep stand in Invariants.antt.
 use Rattle.std.proofs.Common.{arith, refl, sym, ap, ◌∙◌}
 use borrow.Author.Tests.{not-true, not-false}
 use Rattle.offsets.specs.Cut.{cut}

@@ -1,3 +1,4 @@
+-- `chain` meets its contract: the goals that tactics leave open. What its loops keep stands in Invariants.antt.
 use mathlib.Core.Path.{refl, sym, subst}
 use Rattle.offsets.specs.Cut.{cut}
 use Rattle.lexer.specs.Filling.{words_of}

@@ -1,3 +1,4 @@
+-- `first_from` meets its contract: the goals that tactics leave open. What its loops keep stands in Invariants.antt.
 use mathlib.Core.Path.{sym, ◌∙◌}
 use Rattle.row.proofs.Rows.{first_end, first_short, first_open}
 use Rattle.row.proofs.first_from.Goals as goal

@@ -1,3 +1,4 @@
+-- `shared_prefix` meets its contract: the goals that tactics leave open. What its loops keep stands in Invariants.antt.
 use native.Mathlib.Omega.{arith}
 use Rattle.storing.proofs.WordLaws.{first_ended, second_ended, differs, one_more}
 use Rattle.storing.proofs.shared_prefix.Goals as goal

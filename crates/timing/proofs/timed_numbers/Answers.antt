@@ -1,3 +1,4 @@
+-- `timed_numbers` meets its contract: the goals that tactics leave open. What its loops keep stands in Invariants.antt.
 use native.Mathlib.Omega.{arith}
 use Rattle.timing.proofs.Sums.{summed_none, summed_more, summed_all}
 use Rattle.timing.proofs.timed_numbers.Goals as goal

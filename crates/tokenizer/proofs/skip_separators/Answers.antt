@@ -1,3 +1,4 @@
+-- `skip_separators` meets its contract: the goals that tactics leave open. What its loops keep stands in Invariants.antt.
 use mathlib.Core.Path.{refl, sym, ◌∙◌}
 use Rattle.tokenizer.proofs.Laws.{start_end, start_stop, start_more}
 use Rattle.tokenizer.proofs.skip_separators.Goals as goal

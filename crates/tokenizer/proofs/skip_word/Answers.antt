@@ -1,3 +1,4 @@
+-- `skip_word` meets its contract: the goals that tactics leave open. What its loops keep stands in Invariants.antt.
 use mathlib.Core.Path.{refl, sym, ◌∙◌}
 use Rattle.common.proofs.Runs.{past_end, past_stop, past_more}
 use Rattle.tokenizer.specs.Word.{is_word}

@@ -1,3 +1,4 @@
+-- `put` meets its contract: the goals that tactics leave open. What its loops keep stands in Invariants.antt.
 use native.Mathlib.Omega.{arith}
 use Rattle.varint.specs.Varint.{max_varint}
 use Rattle.varint.proofs.Writing.{begin, begun_within, begun_more, begun_last}

@@ -1,3 +1,4 @@
+-- `least_shared` meets its contract: the goals that tactics leave open. What its loops keep stands in Invariants.antt.
 use native.Mathlib.Omega.{arith}
 use mathlib.Core.Path.{sym, ap, ◌∙◌, subst}
 use mathlib.Core.Bool.{true}

@@ -1,3 +1,4 @@
+-- `first_overlong` meets its contract: the goals that tactics leave open. What its loops keep stands in Invariants.antt.
 use mathlib.Core.Path.{sym, ◌∙◌}
 use Rattle.offsets.specs.Cut.{cut}
 use Rattle.offsets.proofs.Cuts.{in_cut, past_cut}

@@ -1,3 +1,4 @@
+-- `go_alone` meets its contract: the goals that tactics leave open. What its loops keep stands in Invariants.antt.
 use native.Mathlib.Omega.{arith}
 use mathlib.Core.Path.{◌∙◌}
 use borrow.Author.Tests.{not-true, not-false}

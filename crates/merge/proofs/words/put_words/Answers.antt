@@ -1,3 +1,4 @@
+-- `put_words` meets its contract: the goals that tactics leave open. What its loops keep stands in Invariants.antt.
 use native.Mathlib.Omega.{arith}
 use Rattle.merge.proofs.Stepping.{loop_start, loop_on, loop_out, loop_ends}
 use Rattle.merge.proofs.words.put_words.Goals as goal

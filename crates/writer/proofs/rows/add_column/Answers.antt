@@ -1,3 +1,4 @@
+-- `add_column` meets its contract: the goals that tactics leave open. What its loops keep stands in Invariants.antt.
 use borrow.Enum.Refused.{opened}
 use native.Mathlib.Omega.{arith}
 use mathlib.Core.Path.{sym, subst, ◌∙◌}

@@ -1,3 +1,4 @@
+-- `fold_all` meets its contract: the goals that tactics leave open. What its loops keep stands in Invariants.antt.
 use native.Mathlib.Omega.{arith}
 use Rattle.common.proofs.Rooms.{over_map_next, over_map_all}
 use Rattle.tokenizer.specs.Word.{fold}

@@ -1,3 +1,4 @@
+-- `gather` meets its contract: the goals that tactics leave open. What its loops keep stands in Invariants.antt.
 use native.Mathlib.Omega.{arith}
 use Rattle.writer.proofs.Gathering.{gathering_none, gathering_all, gathering_adds, gathering_more}
 use Rattle.writer.proofs.rows.gather.Goals as goal

@@ -1,3 +1,4 @@
+-- `terms_size` meets its contract: the goals that tactics leave open. What its loops keep stands in Invariants.antt.
 use Prim.Native.Nat.{◌+◌, ◌-◌, ◌≤◌, ◌<◌}
 use native.Mathlib.Omega.{arith}
 use mathlib.Core.Path.{◌≡◌, refl, ap, ◌∙◌}
