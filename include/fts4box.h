@@ -25,7 +25,7 @@
  *
  * Stack, measured on x86-64 (bench/stack.sh):
  *     fts4_check, fts4_lookup and fts4_deciding 1 KiB, fts4_write 37 KiB, fts4_search 254 KiB, fts4_verdict 255 KiB,
- *     fts4_merge and fts4_merge_keeping 12 KiB
+ *     fts4_merge and fts4_merge_keeping 13 KiB
  */
 #ifndef FTS4BOX_H
 #define FTS4BOX_H

@@ -1,9 +1,8 @@
 // The compared cases of stored numbers, cutting, names and words.
 use crate::exchange;
-use offsets::Column;
 use std::io::{self, Write};
 use tokenizer::Word;
-use varint::{Varint, Written};
+use varint::{NoRoom, Varint};
 
 fn say_pair(out: &mut impl Write, kind: u64, size: usize) -> io::Result<()> {
     exchange::say(out, kind)?;
@@ -24,10 +23,10 @@ pub(crate) fn number_size(out: &mut impl Write, v: u64) -> io::Result<()> {
     exchange::say(out, varint::size(v) as u64)
 }
 
-fn say_written(out: &mut impl Write, answer: Written) -> io::Result<()> {
+fn say_written(out: &mut impl Write, answer: Result<usize, NoRoom>) -> io::Result<()> {
     match answer {
-        Written::Bytes(size) => say_pair(out, 0, size),
-        Written::NoRoom(size) => say_pair(out, 1, size),
+        Ok(size) => say_pair(out, 0, size),
+        Err(NoRoom { need }) => say_pair(out, 1, need),
     }
 }
 
@@ -37,11 +36,7 @@ pub(crate) fn write_number(out: &mut impl Write, room: &mut [u8], v: u64) -> io:
 }
 
 fn say_flag(out: &mut impl Write, yes: bool) -> io::Result<()> {
-    if yes {
-        exchange::say(out, 1)
-    } else {
-        exchange::say(out, 0)
-    }
+    exchange::say(out, u64::from(yes))
 }
 
 pub(crate) fn part(out: &mut impl Write, s: &[u8], ends: &[u32], i: usize) -> io::Result<()> {
@@ -55,8 +50,8 @@ pub(crate) fn part(out: &mut impl Write, s: &[u8], ends: &[u32], i: usize) -> io
 
 fn say_column(out: &mut impl Write, s: &[u8], ends: &[u32], name: &[u8]) -> io::Result<()> {
     match offsets::column_of(s, ends, name) {
-        Column::At(i) => exchange::say(out, i as u64),
-        Column::Unknown => exchange::say_nothing(out),
+        Some(i) => exchange::say(out, i as u64),
+        None => exchange::say_nothing(out),
     }
 }
 
@@ -69,10 +64,8 @@ pub(crate) fn names(out: &mut impl Write, s: &[u8], ends: &[u32], name: &[u8]) -
 }
 
 fn say_folded(out: &mut impl Write, s: &[u8]) -> io::Result<()> {
-    let mut i: usize = 0;
-    while i < s.len() {
-        exchange::say_byte(out, tokenizer::folded(s[i]))?;
-        i += 1;
+    for b in s {
+        exchange::say_byte(out, tokenizer::folded(*b))?;
     }
     exchange::say_nothing(out)
 }

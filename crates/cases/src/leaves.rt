@@ -1,37 +1,18 @@
 // The compared cases of leaves and lookups.
-ghost use Rattle.std.specs.Prelude.{◌≡◌};
-ghost use Rattle.leaf.specs.Answers.{check_numbers};
-
 use crate::exchange;
-use leaf::LeafCheck;
 use lookup::{EntryAnswer, WordAnswer};
 use std::io::{self, Write};
 
-fn check_number(answer: LeafCheck) -> u64
-    ensures { result ≡ (check_numbers answer).number }
-{
-    match answer {
-        LeafCheck::Accepted => 0,
-        LeafCheck::Shape => 1,
-        LeafCheck::Broken => 3,
-    }
-}
-
 pub(crate) fn check(out: &mut impl Write, leaf: &[u8], columns: u32) -> io::Result<()> {
-    exchange::say(out, check_number(leaf::check(leaf, columns)))?;
-    exchange::say(out, 0)
+    let answer = leaf::check(leaf, columns);
+    exchange::say(out, answer.number() as u64)?;
+    exchange::say(out, answer.second() as u64)
 }
 
 fn say_start(out: &mut impl Write, answer: WordAnswer) -> io::Result<()> {
     match answer {
-        WordAnswer::Found {
-            start,
-            size: _,
-            read: _,
-        } => exchange::say(out, start as u64),
-        WordAnswer::Nothing { read: _ } => exchange::say(out, 0),
-        WordAnswer::Shape => exchange::say(out, 0),
-        WordAnswer::Broken => exchange::say(out, 0),
+        WordAnswer::Found { start, .. } => exchange::say(out, start as u64),
+        _ => exchange::say(out, 0),
     }
 }
 
@@ -54,11 +35,11 @@ pub(crate) fn look_up(
 
 fn say_place(out: &mut impl Write, answer: EntryAnswer) -> io::Result<()> {
     match answer {
-        EntryAnswer::Newer { start, size: _ } => {
+        EntryAnswer::Newer { start, .. } => {
             exchange::say(out, 0)?;
             exchange::say(out, start as u64)
         }
-        EntryAnswer::Older { start, size: _ } => {
+        EntryAnswer::Older { start, .. } => {
             exchange::say(out, 1)?;
             exchange::say(out, start as u64)
         }

@@ -12,6 +12,7 @@ mod queries;
 mod searches;
 mod verdicts;
 
+use exchange::Lent;
 use std::io::{self, BufReader, BufWriter, Read, Write};
 
 // What a case asks for, as in tests/case_writer.py; 0 ends the input.
@@ -54,168 +55,100 @@ const MAX_ENDS: usize = 32;
 
 const MAX_SHORT: usize = 1024;
 
-fn answer_ground(
-    out: &mut impl Write,
+// What a case hands over before its last fields.
+#[derive(Clone, Copy)]
+struct Case<'a> {
     kind: u64,
     n: u64,
-    first: &[u8],
-    first_ends: &[u32],
-    short: &[u8],
-) -> io::Result<()> {
-    match kind {
-        READ => ground::read_number(out, short, n as usize),
-        SIZE => ground::number_size(out, n),
-        CUT => ground::part(out, first, first_ends, n as usize),
-        NAMES => ground::names(out, first, first_ends, short),
-        WORD => ground::word(out, short, n as usize),
+    m: u64,
+    first: &'a [u8],
+    first_ends: &'a [u32],
+    second: &'a [u8],
+    second_ends: &'a [u32],
+}
+
+// A kind stays a number: every number is a kind that is read, whether it asks for anything or not.
+fn answer(out: &mut impl Write, case: Case<'_>, short: &[u8]) -> io::Result<()> {
+    match case.kind {
+        READ => ground::read_number(out, short, case.n as usize),
+        SIZE => ground::number_size(out, case.n),
+        CUT => ground::part(out, case.first, case.first_ends, case.n as usize),
+        NAMES => ground::names(out, case.first, case.first_ends, short),
+        WORD => ground::word(out, short, case.n as usize),
+        CHECK => leaves::check(out, case.first, exchange::low_half(case.n)),
+        LOOKUP => leaves::look_up(out, case.first, exchange::low_half(case.n), short),
+        DECIDING => leaves::decide(
+            out,
+            case.first,
+            case.second,
+            exchange::low_half(case.n),
+            short,
+            case.m.cast_signed(),
+        ),
+        QUERY => queries::read(out, case.first, case.first_ends, short),
+        DOCUMENT => documents::write(
+            out,
+            case.m.cast_signed(),
+            case.first,
+            case.first_ends,
+            case.n as usize,
+        ),
         _ => Ok(()),
     }
 }
 
-fn answer<'a>(
-    out: &mut impl Write,
-    kind: u64,
-    n: u64,
-    m: u64,
-    first: &'a [u8],
-    first_ends: &[u32],
-    second: &'a [u8],
-    short: &[u8],
-) -> io::Result<()> {
-    match kind {
-        CHECK => leaves::check(out, first, exchange::low_half(n)),
-        LOOKUP => leaves::look_up(out, first, exchange::low_half(n), short),
-        DECIDING => leaves::decide(
-            out,
-            first,
-            second,
-            exchange::low_half(n),
-            short,
-            exchange::signed_of(m),
-        ),
-        QUERY => queries::read(out, first, first_ends, short),
-        DOCUMENT => documents::write(out, exchange::signed_of(m), first, first_ends, n as usize),
-        _ => answer_ground(out, kind, n, first, first_ends, short),
-    }
-}
-
 // A case of WRITE has its room as the short field.
-fn with_short<'a>(
-    input: &mut impl Read,
-    out: &mut impl Write,
-    kind: u64,
-    n: u64,
-    m: u64,
-    first: &'a [u8],
-    first_ends: &[u32],
-    second: &'a [u8],
-) -> io::Result<()> {
+fn with_short(input: &mut impl Read, out: &mut impl Write, case: Case<'_>) -> io::Result<()> {
     let mut short = [0u8; MAX_SHORT];
     let size = exchange::field(input, &mut short)?;
-    if kind == WRITE {
-        ground::write_number(out, &mut short[0..size], n)
+    if case.kind == WRITE {
+        ground::write_number(out, &mut short[..size], case.n)
     } else {
-        answer(out, kind, n, m, first, first_ends, second, &short[0..size])
+        answer(out, case, &short[..size])
     }
 }
 
 // A case of SEARCH, VERDICT, MERGE or MERGE_KEEPING has levels and indexes before the short field.
-fn with_pairs(
-    input: &mut impl Read,
-    out: &mut impl Write,
-    kind: u64,
-    n: u64,
-    m: u64,
-    first: &[u8],
-    first_ends: &[u32],
-    second: &[u8],
-    second_ends: &[u32],
-) -> io::Result<()> {
+fn with_pairs(input: &mut impl Read, out: &mut impl Write, case: Case<'_>) -> io::Result<()> {
     let mut levels = [0u32; MAX_ENDS];
     let level_count = exchange::ends(input, &mut levels)?;
     let mut indexes = [0u32; MAX_ENDS];
     let index_count = exchange::ends(input, &mut indexes)?;
     let mut short = [0u8; MAX_SHORT];
     let size = exchange::field(input, &mut short)?;
-    if MERGE <= kind {
-        return merges::merge(
+    let lent = Lent {
+        leaves: case.second,
+        ends: case.second_ends,
+        levels: &levels[..level_count],
+        indexes: &indexes[..index_count],
+    };
+    match case.kind {
+        SEARCH => searches::search(
             out,
-            kind == MERGE_KEEPING,
-            exchange::low_half(n),
-            second,
-            second_ends,
-            &levels[0..level_count],
-            &indexes[0..index_count],
-            m as usize,
-        );
-    }
-    if kind == SEARCH {
-        searches::search(
-            out,
-            first,
-            first_ends,
-            second,
-            second_ends,
-            &levels[0..level_count],
-            &indexes[0..index_count],
-            &short[0..size],
-            n as usize,
-        )
-    } else {
-        verdicts::verdict(
+            case.first,
+            case.first_ends,
+            lent,
+            &short[..size],
+            case.n as usize,
+        ),
+        VERDICT => verdicts::verdict(
             input,
             out,
-            exchange::signed_of(n),
-            exchange::signed_of(m),
-            first,
-            first_ends,
-            second,
-            second_ends,
-            &levels[0..level_count],
-            &indexes[0..index_count],
-            &short[0..size],
-        )
-    }
-}
-
-fn with_second(
-    input: &mut impl Read,
-    out: &mut impl Write,
-    kind: u64,
-    n: u64,
-    m: u64,
-    first: &[u8],
-    first_ends: &[u32],
-) -> io::Result<()> {
-    let mut second = [0u8; MAX_FIELD];
-    let size = exchange::field(input, &mut second)?;
-    let mut ends = [0u32; MAX_ENDS];
-    let count = exchange::ends(input, &mut ends)?;
-    if SEARCH <= kind {
-        with_pairs(
-            input,
+            case.n.cast_signed(),
+            case.m.cast_signed(),
+            case.first,
+            case.first_ends,
+            lent,
+            &short[..size],
+        ),
+        _ => merges::merge(
             out,
-            kind,
-            n,
-            m,
-            first,
-            first_ends,
-            &second[0..size],
-            &ends[0..count],
-        )
-    } else {
-        with_short(input, out, kind, n, m, first, first_ends, &second[0..size])
+            case.kind == MERGE_KEEPING,
+            exchange::low_half(case.n),
+            lent,
+            case.m as usize,
+        ),
     }
-}
-
-fn with_first(input: &mut impl Read, out: &mut impl Write, kind: u64) -> io::Result<()> {
-    let n = exchange::number(input)?;
-    let m = exchange::number(input)?;
-    let mut first = [0u8; MAX_FIELD];
-    let size = exchange::field(input, &mut first)?;
-    let mut ends = [0u32; MAX_ENDS];
-    let count = exchange::ends(input, &mut ends)?;
-    with_second(input, out, kind, n, m, &first[0..size], &ends[0..count])
 }
 
 // Answers one case; whether there was one.
@@ -224,7 +157,30 @@ fn one_case(input: &mut impl Read, out: &mut impl Write) -> io::Result<bool> {
     if kind == 0 {
         return Ok(false);
     }
-    with_first(input, out, kind)?;
+    let n = exchange::number(input)?;
+    let m = exchange::number(input)?;
+    let mut first = [0u8; MAX_FIELD];
+    let first_size = exchange::field(input, &mut first)?;
+    let mut first_ends = [0u32; MAX_ENDS];
+    let first_count = exchange::ends(input, &mut first_ends)?;
+    let mut second = [0u8; MAX_FIELD];
+    let second_size = exchange::field(input, &mut second)?;
+    let mut second_ends = [0u32; MAX_ENDS];
+    let second_count = exchange::ends(input, &mut second_ends)?;
+    let case = Case {
+        kind,
+        n,
+        m,
+        first: &first[..first_size],
+        first_ends: &first_ends[..first_count],
+        second: &second[..second_size],
+        second_ends: &second_ends[..second_count],
+    };
+    if SEARCH <= kind {
+        with_pairs(input, out, case)?;
+    } else {
+        with_short(input, out, case)?;
+    }
     exchange::end_line(out)?;
     Ok(true)
 }
@@ -232,12 +188,10 @@ fn one_case(input: &mut impl Read, out: &mut impl Write) -> io::Result<bool> {
 fn main(rt: HostRuntime) -> io::Result<()> {
     let mut input = BufReader::new(rt.alloc(), rt.reader())?;
     let mut out = BufWriter::new(rt.alloc(), io::writer(&rt))?;
-    let mut i: usize = 0;
-    while i < MAX_CASES {
+    for _ in 0..MAX_CASES {
         if !one_case(&mut input, &mut out)? {
-            return out.flush();
+            break;
         }
-        i += 1;
     }
     out.flush()
 }

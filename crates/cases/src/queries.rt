@@ -34,11 +34,9 @@ fn say_word(out: &mut impl Write, words: Words, i: usize, from: usize) -> io::Re
 fn say_words(out: &mut impl Write, words: Words) -> io::Result<()> {
     let n = words.count;
     exchange::say(out, n as u64)?;
-    let mut i: usize = 0;
-    let mut from: usize = 0;
-    while i < n {
+    let mut from = 0;
+    for i in 0..n {
         from = say_word(out, words, i, from)?;
-        i += 1;
     }
     Ok(())
 }
@@ -46,12 +44,8 @@ fn say_words(out: &mut impl Write, words: Words) -> io::Result<()> {
 fn say_ops(out: &mut impl Write, ops: Ops) -> io::Result<()> {
     let n = ops.len;
     exchange::say(out, n as u64)?;
-    let mut i: usize = 0;
-    while i < n {
-        if i < query::MAX_CODES {
-            exchange::say(out, ops.codes[i] as u64)?;
-        }
-        i += 1;
+    for code in ops.codes.iter().take(n) {
+        exchange::say(out, *code as u64)?;
     }
     Ok(())
 }
@@ -70,11 +64,8 @@ pub(crate) fn read(
     ends: &[u32],
     text: &[u8],
 ) -> io::Result<()> {
-    let r = query::read(names, ends, text);
-    if r.ok {
-        let q = r.query;
-        say_query(out, q)
-    } else {
-        exchange::say(out, REFUSED)
+    match query::read(names, ends, text) {
+        Some(q) => say_query(out, q),
+        None => exchange::say(out, REFUSED),
     }
 }

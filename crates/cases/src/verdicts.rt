@@ -1,9 +1,7 @@
 // The compared cases of the verdict sheet: the number and, where rows were counted, the four counts, else the second number; then all
 // numbers of the three rooms.
-ghost use Rattle.std.specs.Prelude.{◌≤◌, IfOk};
-
-use crate::{exchange, searches};
-use doclist::keys;
+use crate::exchange::{self, Lent};
+use crate::searches;
 use std::io::{self, Read, Write};
 use verdict::Sheet;
 
@@ -21,19 +19,14 @@ fn say_counts(
     silent: usize,
     none: usize,
 ) -> io::Result<()> {
-    exchange::say(out, 0)?;
     exchange::say(out, passed as u64)?;
     exchange::say(out, failed as u64)?;
     exchange::say(out, silent as u64)?;
     exchange::say(out, none as u64)
 }
 
-fn say_refusal(out: &mut impl Write, number: u64, second: u64) -> io::Result<()> {
-    exchange::say(out, number)?;
-    exchange::say(out, second)
-}
-
 fn say_sheet(out: &mut impl Write, sheet: Sheet) -> io::Result<()> {
+    exchange::say(out, sheet.number() as u64)?;
     match sheet {
         Sheet::Counted {
             passed,
@@ -41,11 +34,9 @@ fn say_sheet(out: &mut impl Write, sheet: Sheet) -> io::Result<()> {
             silent,
             none,
         } => say_counts(out, passed, failed, silent, none),
-        Sheet::Shape => say_refusal(out, 1, 0),
-        Sheet::Query => say_refusal(out, 2, 0),
-        Sheet::Leaf(i) => say_refusal(out, 3, i as u64),
-        Sheet::Room(n) => say_refusal(out, 4, n as u64),
-        Sheet::Twice(docid) => say_refusal(out, 7, keys::bits_of(keys::key_of(docid))),
+        Sheet::Shape | Sheet::Query => exchange::say(out, 0),
+        Sheet::Leaf(n) | Sheet::Room(n) => exchange::say(out, n as u64),
+        Sheet::Twice(docid) => exchange::say(out, docid.cast_unsigned()),
     }
 }
 
@@ -55,10 +46,7 @@ fn judge(
     last: i64,
     names: &[u8],
     name_ends: &[u32],
-    leaves: &[u8],
-    leaf_ends: &[u32],
-    levels: &[u32],
-    indexes: &[u32],
+    lent: Lent<'_>,
     pass: &[u8],
     fail: &[u8],
     silent: &[u8],
@@ -71,32 +59,21 @@ fn judge(
         last,
         names,
         name_ends,
-        leaves,
-        leaf_ends,
-        levels,
-        indexes,
+        lent.leaves,
+        lent.ends,
+        lent.levels,
+        lent.indexes,
         pass,
         fail,
         silent,
-        &mut passes[0..],
-        &mut fails[0..],
-        &mut silents[0..],
+        &mut passes[..],
+        &mut fails[..],
+        &mut silents[..],
     );
     say_sheet(out, sheet)?;
     searches::say_docids(out, passes, passes.len())?;
     searches::say_docids(out, fails, fails.len())?;
     searches::say_docids(out, silents, silents.len())
-}
-
-// The size of the next room.
-fn room_size(input: &mut impl Read) -> io::Result<usize>
-    ensures { IfOk result (λ n. n ≤ 1024) }
-{
-    let n = exchange::number(input)?;
-    if (MAX_ROOM as u64) < n {
-        return Ok(0);
-    }
-    Ok(n as usize)
 }
 
 // A case has two further queries and the sizes of the three rooms.
@@ -107,19 +84,16 @@ pub(crate) fn verdict(
     last: i64,
     names: &[u8],
     name_ends: &[u32],
-    leaves: &[u8],
-    leaf_ends: &[u32],
-    levels: &[u32],
-    indexes: &[u32],
+    lent: Lent<'_>,
     pass: &[u8],
 ) -> io::Result<()> {
     let mut fail = [0u8; MAX_QUERY];
     let fail_size = exchange::field(input, &mut fail)?;
     let mut silent = [0u8; MAX_QUERY];
     let silent_size = exchange::field(input, &mut silent)?;
-    let passes_size = room_size(input)?;
-    let fails_size = room_size(input)?;
-    let silents_size = room_size(input)?;
+    let passes_size = exchange::size(input, MAX_ROOM)?;
+    let fails_size = exchange::size(input, MAX_ROOM)?;
+    let silents_size = exchange::size(input, MAX_ROOM)?;
     let mut passes = [OTHER; MAX_ROOM];
     let mut fails = [OTHER; MAX_ROOM];
     let mut silents = [OTHER; MAX_ROOM];
@@ -129,15 +103,12 @@ pub(crate) fn verdict(
         last,
         names,
         name_ends,
-        leaves,
-        leaf_ends,
-        levels,
-        indexes,
+        lent,
         pass,
-        &fail[0..fail_size],
-        &silent[0..silent_size],
-        &mut passes[0..passes_size],
-        &mut fails[0..fails_size],
-        &mut silents[0..silents_size],
+        &fail[..fail_size],
+        &silent[..silent_size],
+        &mut passes[..passes_size],
+        &mut fails[..fails_size],
+        &mut silents[..silents_size],
     )
 }

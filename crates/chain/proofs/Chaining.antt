@@ -17,7 +17,7 @@ use Rattle.row.specs.Row.{Hit}
 use Rattle.row.specs.Walk.{candidates, WholeRow}
 use Rattle.lexer.proofs.Nodes.{length_node_map, length_phrase_nodes}
 use Rattle.chain.specs.Chains.{TiesAre, BeginsChain, run_end, chain_end, RowFits, Agrees, ChainAt, MarkRoom, mark_words, DecidesChain}
-use Rattle.chain.specs.Reaching.{is_marked, distance_at, Nth, SomeAllowed, source_of, Steps, window_of, operand_start}
+use Rattle.chain.specs.Reaching.{is_marked, distance_at, Nth, SomeAllowed, source_of, origin_of, Steps, window_of, operand_start}
 use Rattle.chain.specs.Going.{GoesOn, InsideColumns, WordsAt, Continues}
 use Rattle.chain.specs.declared.Window.{Window}
 use Rattle.chain.proofs.Nodes.{length_ties, tie_is, columns_is, distance_is, phrase_end, chain_end_lem, links_stop, nears_high, StopsTied}
@@ -96,19 +96,19 @@ module _ (ties distances columns : List ℕ) (from end : ℕ) (first : Bool) (le
     pub words_next : List QueryWord
     pub todo_next : List Link
     pub at_next : WordsAt nodes (end + 1) (get_or columns (operand_start ties from end) 0) words_next todo_next
-    pub inside_next : InsideColumns (get_or columns (operand_start ties from end) 0) (source_of false (get_or columns (operand_start ties from end) 0) put) (candidates (end + 1 - 1) hits)
-    pub same : GoesOn stands ws todo (end - from) (source_of first (get_or columns from 0) before) (candidates (end - 1) hits)
-        ↔ GoesOn stands words_next todo_next (end + 1 - operand_start ties from end) (source_of false (get_or columns (operand_start ties from end) 0) put) (candidates (end + 1 - 1) hits)
+    pub inside_next : InsideColumns (get_or columns (operand_start ties from end) 0) (source_of (origin_of false (get_or columns (operand_start ties from end) 0)) put) (candidates (end + 1 - 1) hits)
+    pub same : GoesOn stands ws todo (end - from) (source_of (origin_of first (get_or columns from 0)) before) (candidates (end - 1) hits)
+        ↔ GoesOn stands words_next todo_next (end + 1 - operand_start ties from end) (source_of (origin_of false (get_or columns (operand_start ties from end) 0)) put) (candidates (end + 1 - 1) hits)
 
   module _ (forward : from < end) (inside : end < length ties) (tied : 1 ≤ get_or ties end 0) (put : List ℕ) (r : Bool)
       (steps : (hits : List Hit) → RowFits leaves starts masks hits → mark_words ≤ length marks
-      → Steps hits end (get_or columns end 0) (window_of ties distances from end) (source_of first (get_or columns from 0) before) put r) where
+      → Steps hits end (get_or columns end 0) (window_of ties distances from end) (source_of (origin_of first (get_or columns from 0)) before) put r) where
     -- what is known of a step, put together
     behind_of : (nodes : List Node) (ws ws' : List QueryWord) (todo todo' : List Link) (hits : List Hit) (stands : Standing) (start size : ℕ)
         → operand_start ties from end ≡ start → size ≡ end + 1 - start → get_or columns end 0 ≡ get_or columns start 0
         → WordsAt nodes (end + 1) (get_or columns start 0) ws' todo'
-        → Steps hits end (get_or columns end 0) (window_of ties distances from end) (source_of first (get_or columns from 0) before) put r
-        → GoesOn stands ws todo (end - from) (source_of first (get_or columns from 0) before) (candidates (end - 1) hits)
+        → Steps hits end (get_or columns end 0) (window_of ties distances from end) (source_of (origin_of first (get_or columns from 0)) before) put r
+        → GoesOn stands ws todo (end - from) (source_of (origin_of first (get_or columns from 0)) before) (candidates (end - 1) hits)
         ↔ GoesOn stands ws' todo' size (λ j column. is_marked put j) (candidates end hits)
         → Behind put nodes ws todo hits stands
     behind_of nodes ws ws' todo todo' hits stands start size e f g at s same =
@@ -129,7 +129,7 @@ module _ (ties distances columns : List ℕ) (from end : ℕ) (first : Bool) (le
         → RowFits leaves starts masks hits
         → Agrees (StandsAt live docid) nodes hits
         → MarkRoom before marks
-        → InsideColumns (get_or columns from 0) (source_of first (get_or columns from 0) before) (candidates (end - 1) hits)
+        → InsideColumns (get_or columns from 0) (source_of (origin_of first (get_or columns from 0)) before) (candidates (end - 1) hits)
         → Behind put nodes ws todo hits (StandsAt live docid)
     behind nodes [] [] hits live docid words at row agrees room within =
         absurd (omega (arith, no_link nodes ties distances columns words end at.rest at.here at.begins inside))
@@ -147,10 +147,10 @@ module _ (ties distances columns : List ℕ) (from end : ℕ) (first : Bool) (le
         c
         (record { rest = at.rest; here = drop_next nodes end n xs at.here; begins = at.begins; filled = at.filled })
         s
-        (goes_word leaves starts masks (StandsAt live docid) nodes hits agrees row end n xs at.here (get_or columns end 0) (record { word = end - 1; back = 1; ahead = 0; apart = 0 }) (source_of first set before) put r
-        (subst (λ (x : Window). Steps hits end (get_or columns end 0) x (source_of first set before) put r) e s)
+        (goes_word leaves starts masks (StandsAt live docid) nodes hits agrees row end n xs at.here (get_or columns end 0) (record { word = end - 1; back = 1; ahead = 0; apart = 0 }) (source_of (origin_of first set) before) put r
+        (subst (λ (x : Window). Steps hits end (get_or columns end 0) x (source_of (origin_of first set) before) put r) e s)
         (end - from) ws todo refl refl refl
-        (subst (λ (x : ℕ). InsideColumns x (source_of first set before) (candidates (end - 1) hits)) (sym c) within))
+        (subst (λ (x : ℕ). InsideColumns x (source_of (origin_of first set) before) (candidates (end - 1) hits)) (sym c) within))
     behind nodes [] (l ∷ todo) hits live docid words at row agrees room within = go l.phrase.words refl
       where
         is : LinkIs ties distances columns end l.distance l.phrase.columns l.phrase.words
@@ -182,8 +182,8 @@ module _ (ties distances columns : List ℕ) (from end : ℕ) (first : Bool) (le
               filled = at.filled.1;
             })
             s
-            (goes_link leaves starts masks (StandsAt live docid) nodes hits agrees row end n xs here (get_or columns end 0) t (source_of first (get_or columns from 0) before) put r
-            (subst (λ (x : Window). Steps hits end (get_or columns end 0) x (source_of first (get_or columns from 0) before) put r) e s)
+            (goes_link leaves starts masks (StandsAt live docid) nodes hits agrees row end n xs here (get_or columns end 0) t (source_of (origin_of first (get_or columns from 0)) before) put r
+            (subst (λ (x : Window). Steps hits end (get_or columns end 0) x (source_of (origin_of first (get_or columns from 0)) before) put r) e s)
             (end - from) l ws todo q is.columns_are (omega arith) (omega arith) (omega arith))
 
     -- the next word is not reached
@@ -299,9 +299,6 @@ module _ (ties distances columns : List ℕ) (from : ℕ) (leaves starts masks m
   pub decides_narrow : length columns < length ties → DecidesChain ties distances columns from leaves starts masks marks spare false
   decides_narrow h nodes c hits live docid words at row agrees room =
       absurd (omega (arith, ap length words.columns_are, length_node_map (λ n. n.columns) nodes, length_ties nodes ties distances columns words))
-
-  pub decides_cramped : (MarkRoom marks spare → ⊥) → DecidesChain ties distances columns from leaves starts masks marks spare false
-  decides_cramped h nodes c hits live docid words at row agrees room = absurd (h room)
 
   pub decides_single : chain_end ties from ≡ from + 1 → (r : Bool)
       → ((hits : List Hit) → WholeRow leaves starts masks hits → (r ≡ true) ↔ SomeAllowed (candidates from hits) (get_or columns from 0))

@@ -1,14 +1,17 @@
--- Keys in order: the loops of `lower_bound` and `insert`, and the answers of `some_key`.
+-- Keys in order: one key more, and the answers of `some_key`.
 use Prim.Native.Nat.{ℕ, suc, ◌+◌, ◌-◌, ◌≤◌, ◌<◌}
 use native.Mathlib.Omega.{arith}
-use mathlib.Core.Path.{◌≡◌, refl, sym, ap, ◌∙◌}
+use mathlib.Core.Path.{◌≡◌, sym, ap, ◌∙◌, subst}
 use mathlib.Core.Bool.{true, false}
 use mathlib.Core.Logic.{◌↔◌, ◌⊎◌, inl, inr, ⊎_elim}
 use mathlib.Core.List.{List}
-use lib.ListN.{length, get_or, set}
-use lib.Seq.{get_or-set_same, get_or-set_other}
+use lib.ListN.{length, get_or, set, take}
+use lib.Seq.{get_or-set_same, get_or-set_other, length-take-le}
+use Rattle.std.proofs.lemmas.List.{get_or-take}
+use Rattle.std.proofs.lemmas.List.Sorted.{IsNonDecreasingBy-from_default}
 use lib.Dec.{ltb}
-use borrow.Author.Tests.{ltb-true, lt-ltb}
+use borrow.Author.Tests.{ltb-true, ltb-false, lt-ltb}
+use Rattle.std.specs.List.Sorted.{IsNonDecreasingBy, IsPartitionPoint}
 use Rattle.common.proofs.Cases.{split, fails_exactly}
 use Rattle.chain.specs.Keys.{Ordered, Bound, SomeKey, Inserts}
 
@@ -18,42 +21,33 @@ ordered_none keys a b h l = absurd (omega arith)
 pub some_none {ℓ} : {X : Type ℓ} (keys : List ℕ) (low limit : ℕ) → SomeKey keys 0 low limit → X
 some_none keys low limit s = absurd (omega (arith, s.1))
 
--- ---- halving
+-- keys in order, as std says it
+pub ordered_by : (keys : List ℕ) → Ordered keys (length keys) → IsNonDecreasingBy (λ x. x) keys
+ordered_by keys ordered = IsNonDecreasingBy-from_default (λ x. x) keys 0 ordered
 
--- the keys before `low` are below the key, and those from `high` on are not
-pub record Halving (keys : List ℕ) (count key low high : ℕ) : Type 0 where
-  pub below : (a : ℕ) → a < low → get_or keys a 0 < key
-  pub above : (a : ℕ) → high ≤ a → a < count → key ≤ get_or keys a 0
+-- the place where keys are no longer below one
+pub bound_of : (keys : List ℕ) (key at : ℕ) → IsPartitionPoint (λ y. ltb y key ≡ true) (λ y. ltb y key ≡ false) keys at → Bound keys (length keys) key at
+bound_of keys key at p =
+    record { below = λ a h. ltb-true (get_or keys a 0) key (p.0 a 0 (omega arith) h); above = λ a h l. ltb-false (get_or keys a 0) key (p.1 a 0 h l) }
 
-module _ (keys : List ℕ) (count key : ℕ) where
-  pub halving_first : Halving keys count key 0 count
-  halving_first = record { below = λ a h. absurd (omega arith); above = λ a h l. absurd (omega arith) }
+-- the first keys alone
+module _ (keys : List ℕ) (n : ℕ) (inside : n ≤ length keys) where
+  pub ordered_cut : Ordered keys n → Ordered (take n keys) (length (take n keys))
+  ordered_cut o =
+      subst (Ordered (take n keys)) (sym (length-take-le n keys inside))
+      (λ a b h l. rw (get_or-take n keys a 0 (omega arith), get_or-take n keys b 0 l) (o a b h l))
 
-  module _ (ordered : Ordered keys count) (low high : ℕ) (s : Halving keys count key low high) where
-    pub halving_up : (middle : ℕ) → middle < count → get_or keys middle 0 < key → Halving keys count key (middle + 1) high
-    halving_up middle h l =
-        record { below = λ a q. let o = ordered a middle (omega arith) h in omega arith; above = s.above }
-
-    pub halving_down : (middle : ℕ) → middle < count → key ≤ get_or keys middle 0 → Halving keys count key low middle
-    halving_down middle h l =
-        record { below = s.below; above = λ a q m. let o = ordered middle a q m in omega arith }
-
-    pub halving_done : low ≡ high → Bound keys count key low
-    halving_done e = record { below = s.below; above = λ a h l. s.above a (omega arith) l }
+  pub some_cut : (low limit : ℕ) → SomeKey (take n keys) (length (take n keys)) low limit ↔ SomeKey keys n low limit
+  some_cut low limit =
+      subst (λ (m : ℕ). SomeKey (take n keys) m low limit ↔ SomeKey keys n low limit) (sym (length-take-le n keys inside)) (
+        λ s. let e = get_or-take n keys s.0 0 s.1 in (s.0, s.1, omega (arith, s.2), omega (arith, s.3)),
+        λ s. let e = get_or-take n keys s.0 0 s.1 in (s.0, s.1, omega (arith, s.2), omega (arith, s.3)),
+      )
 
 -- ---- looking for a key
 
 module _ (keys : List ℕ) (count low limit : ℕ) where
-  pub some_empty : count ≡ 0 → (false ≡ true) ↔ SomeKey keys count low limit
-  some_empty e = fails_exactly (λ s. omega (arith, s.1))
-
   module _ (ordered : Ordered keys count) where
-    pub some_below : get_or keys (count - 1) 0 < low → (false ≡ true) ↔ SomeKey keys count low limit
-    some_below h = fails_exactly (λ s. let l = s.1 in let o = ordered s.0 (count - 1) (omega arith) (omega arith) in omega (arith, s.2))
-
-    pub some_above : limit ≤ get_or keys 0 0 → (false ≡ true) ↔ SomeKey keys count low limit
-    some_above h = fails_exactly (λ s. let o = ordered 0 s.0 (omega arith) s.1 in omega (arith, s.3))
-
     module _ (at : ℕ) (b : Bound keys count low at) where
       at_most : (a : ℕ) → low ≤ get_or keys a 0 → at ≤ a
       at_most a h = split a at (λ l. let q = b.below a l in absurd (omega arith)) (λ l. l)
@@ -77,27 +71,7 @@ pub record Shifted (keys put : List ℕ) (count key at : ℕ) : Type 0 where
   pub above : (a : ℕ) → at < a → a ≤ count → (get_or put a 0 ≡ get_or keys (a - 1) 0) × (key < get_or keys (a - 1) 0)
 
 module _ (keys : List ℕ) (count key : ℕ) where
-  pub shifted_none : Shifted keys keys count key count
-  shifted_none = record { below = λ a h. refl; above = λ a h l. absurd (omega arith) }
-
   module _ (put : List ℕ) (at : ℕ) (s : Shifted keys put count key at) (room : at < length put) where
-    pub shifted_more : 0 < at → key < get_or put (at - 1) 0 → Shifted keys (set put at (get_or put (at - 1) 0)) count key (at - 1)
-    shifted_more some l =
-        record {
-          below = λ a h.
-              get_or-set_other put at a (get_or put (at - 1) 0) 0 (λ e. omega arith) ∙ s.below a (omega arith);
-          above = λ a h m.
-              split at a
-              (λ q. (get_or-set_other put at a (get_or put (at - 1) 0) 0 (λ e. omega arith) ∙ (s.above a q m).0, (s.above a q m).1))
-              (λ q.
-              let e : a ≡ at = omega arith in
-              let k : get_or put (at - 1) 0 ≡ get_or keys (at - 1) 0 = s.below (at - 1) (omega arith) in
-              let d : get_or keys (a - 1) 0 ≡ get_or keys (at - 1) 0 = ap (λ (n : ℕ). get_or keys (n - 1) 0) e in (
-                ap (λ (n : ℕ). get_or (set put at (get_or put (at - 1) 0)) n 0) e ∙ get_or-set_same put at (get_or put (at - 1) 0) 0 room ∙ k ∙ sym d,
-                omega arith,
-              ));
-        }
-
     -- what is not above the key before `at`, is not further before
     pub least_of : 0 < at → at ≤ count → Ordered keys count → get_or put (at - 1) 0 ≤ key → (a : ℕ) → a < at → get_or keys a 0 ≤ key
     least_of some inside ordered l a h =

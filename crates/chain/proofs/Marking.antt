@@ -7,40 +7,21 @@ use mathlib.Core.Logic.{◌↔◌, ◌⊎◌, inl, inr, ⊎_elim}
 use mathlib.Core.List.{List}
 use lib.ListN.{length}
 use Rattle.common.specs.Pick.{pick}
-use Rattle.common.proofs.Cases.{false_not_true, split, fails_exactly, passes_exactly}
+use Rattle.common.proofs.Cases.{false_not_true, split}
 use Rattle.doclist.specs.Doclist.{position_limit}
-use Rattle.common.specs.Bits.{contains}
 use Rattle.row.specs.Row.{Hit, bodies_size}
 use Rattle.row.specs.Walk.{Spot, spot, candidates, AheadOf, Finds}
 use Rattle.row.specs.declared.Place.{Place}
-use Rattle.row.specs.declared.Found.{Found}
-use Rattle.row.specs.declared.Found.TheVariants.{At, Done}
+use Rattle.std.specs.Prelude.{Option, Some, None}
 use Rattle.chain.specs.Chains.{max_candidates, mark_words}
-use Rattle.chain.specs.Reaching.{is_marked, old_of, put_at, Nth, SomeMarked, MarksAre, InWindow, ReachedBy}
+use Rattle.chain.specs.Reaching.{is_marked, old_of, put_at, Nth, SomeMarked, MarksAre, ReachedBy}
 use Rattle.chain.specs.declared.Window.{Window}
 use Rattle.chain.proofs.Marks.{put_here, put_other}
-use Rattle.chain.proofs.Walks.{WalkingRow, walking_first, walking_done, walking_nth, walking_room, walking_next, nth_same, nth_inside}
-
--- ---- one candidate
-
-module _ (old : Bool) (columns : ℕ) (t : Window) (keys : List ℕ) (count column position : ℕ) where
-  pub told_old : old ≡ true → (true ≡ true) ↔ ReachedBy old columns t keys count column position
-  told_old e = passes_exactly (inl e)
-
-  pub told_not : old ≡ false → contains columns column ≡ false → (false ≡ true) ↔ ReachedBy old columns t keys count column position
-  told_not e f =
-      fails_exactly (λ h. ⊎_elim (λ (x : old ≡ true). false_not_true (sym e ∙ x)) (λ x. false_not_true (sym f ∙ x.0)) h)
-
-  pub told_in : old ≡ false → contains columns column ≡ true → (r : Bool) → r ≡ true ↔ InWindow t keys count column position
-      → (r ≡ true) ↔ ReachedBy old columns t keys count column position
-  told_in e f r i = (
-    λ h. inr (f, i.0 h),
-    λ h. ⊎_elim (λ (x : old ≡ true). false_not_true (sym e ∙ x)) (λ x. i.1 x.1) h,
-  )
+use Rattle.chain.proofs.Walks.{WalkingRow, walking_done, walking_nth, walking_room, walking_next, nth_same, nth_inside}
 
 -- ---- all candidates
 
-pub record Marking (leaves starts masks : List ℕ) (i : ℕ) (hits : List Hit) (Holds : ℕ → ℕ → ℕ → Type 0) (before marks : List ℕ) (some : Bool) (j : ℕ) (r : Found) : Type 0 where
+pub record Marking (leaves starts masks : List ℕ) (i : ℕ) (hits : List Hit) (Holds : ℕ → ℕ → ℕ → Type 0) (before marks : List ℕ) (some : Bool) (j : ℕ) (r : Option Place) : Type 0 where
   pub walk : WalkingRow leaves starts masks i hits j r
   pub small : (k column position : ℕ) → k < j → Nth (candidates i hits) k (spot column position) → position < position_limit
   pub tell : (k column position : ℕ) → k < j → Nth (candidates i hits) k (spot column position) → (is_marked marks k ≡ true) ↔ Holds k column position
@@ -48,19 +29,8 @@ pub record Marking (leaves starts masks : List ℕ) (i : ℕ) (hits : List Hit) 
   pub some_passed : (some ≡ true) ↔ ((m : SomeMarked marks (candidates i hits)) × (m.0 < j))
 
 module _ (leaves starts masks : List ℕ) (i : ℕ) (hits : List Hit) (Holds : ℕ → ℕ → ℕ → Type 0) (before : List ℕ) where
-  pub marking_first : (r : Found) → Finds leaves starts masks i (candidates i hits) r
-      → Marking leaves starts masks i hits Holds before before false 0 r
-  marking_first r f =
-      record {
-        walk = walking_first leaves starts masks i hits r f;
-        small = λ k column position h n. absurd (omega arith);
-        tell = λ k column position h n. absurd (omega arith);
-        later = λ k h. refl;
-        some_passed = fails_exactly (λ m. omega (arith, m.1));
-      }
-
-  module _ (marks : List ℕ) (some : Bool) (j : ℕ) (r : Found) (n : Marking leaves starts masks i hits Holds before marks some j r) where
-    pub marking_done : r ≡ Done → MarksAre (candidates i hits) Holds marks some
+  module _ (marks : List ℕ) (some : Bool) (j : ℕ) (r : Option Place) (n : Marking leaves starts masks i hits Holds before marks some j r) where
+    pub marking_done : r ≡ None → MarksAre (candidates i hits) Holds marks some
     marking_done e =
         let d = walking_done leaves starts masks i hits j r n.walk e in
         record {
@@ -74,10 +44,15 @@ module _ (leaves starts masks : List ℕ) (i : ℕ) (hits : List Hit) (Holds : �
           );
         }
 
-    module _ (p : Place) (e : r ≡ At p) where
-      pub marking_full {ℓ} : {X : Type ℓ} → bodies_size hits ≤ max_candidates → max_candidates ≤ j → X
-      marking_full h k = absurd (omega (arith, walking_room leaves starts masks i hits j r n.walk p e h))
+    -- no row has more candidates than fit
+    pub marking_full : bodies_size hits ≤ max_candidates → max_candidates ≤ j → MarksAre (candidates i hits) Holds marks some
+    marking_full h k = go r refl
+      where
+        go : (x : Option Place) → r ≡ x → MarksAre (candidates i hits) Holds marks some
+        go None e = marking_done e
+        go (Some p) e = absurd (omega (arith, walking_room leaves starts masks i hits j r n.walk p e h))
 
+    module _ (p : Place) (e : r ≡ Some p) where
       here_nth : Nth (candidates i hits) j (spot p.column p.position)
       here_nth = walking_nth leaves starts masks i hits j r n.walk p e
 
@@ -132,7 +107,7 @@ module _ (leaves starts masks : List ℕ) (i : ℕ) (hits : List Hit) (Holds : �
             let same : j ≡ m.0 = omega arith in
             inr (sym here ∙ ap (λ (x : ℕ). is_marked (put_at marks j b) x) same ∙ m.3))
 
-        pub marking_next : (t : Found) (u : Bool) → (some ≡ true → u ≡ true) → (b ≡ true → u ≡ true) → (u ≡ true → (some ≡ true) ⊎ (b ≡ true))
+        pub marking_next : (t : Option Place) (u : Bool) → (some ≡ true → u ≡ true) → (b ≡ true → u ≡ true) → (u ≡ true → (some ≡ true) ⊎ (b ≡ true))
             → ((ahead : List Spot) → AheadOf leaves starts masks i p ahead → Finds leaves starts masks i ahead t)
             → Marking leaves starts masks i hits Holds before (put_at marks j b) u (j + 1) t
         marking_next t u one other back go =
@@ -152,9 +127,9 @@ module _ (leaves starts masks : List ℕ) (i : ℕ) (hits : List Hit) (columns :
   abbrev pub Holding : ℕ → ℕ → ℕ → Type 0
   Holding j column position = ReachedBy (old_of fresh before j) columns t keys count column position
 
-  pub marking_put : (marks put : List ℕ) (some old b u : Bool) (j : ℕ) (r x : Found) (p : Place)
+  pub marking_put : (marks put : List ℕ) (some old b u : Bool) (j : ℕ) (r x : Option Place) (p : Place)
       → Marking leaves starts masks i hits Holding before marks some j r
-      → r ≡ At p
+      → r ≡ Some p
       → p.position < position_limit
       → old ≡ old_of fresh marks j
       → b ≡ true ↔ ReachedBy old columns t keys count p.column p.position

@@ -1,15 +1,10 @@
 -- The rooms to work in, where nothing was written to them, and over two calls.
-use mathlib.Core.Path.{refl}
-use mathlib.Core.Bool.{false}
 use mathlib.Core.List.{List}
 use Prim.Native.Nat.{ℕ}
 use Rattle.common.proofs.Frames.{kept_all, kept_again}
-use Rattle.chain.specs.Chains.{mark_words, NotEvaluated, RoomsKept}
+use Rattle.chain.specs.Chains.{mark_words, RoomsKept}
 
 module _ (marks spare : List ℕ) where
-  pub rooms_refused : NotEvaluated marks marks spare spare false
-  rooms_refused = record { answer = refl; marks_same = refl; spare_same = refl }
-
   pub rooms_all : RoomsKept marks marks spare spare
   rooms_all = record { marks_kept = kept_all mark_words marks; spare_kept = kept_all mark_words spare }
 

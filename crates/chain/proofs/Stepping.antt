@@ -1,45 +1,29 @@
 -- The loop of `step`: the sources that were passed are told by the marks or are among the keys.
 use Prim.Native.Nat.{ℕ, ◌+◌, ◌-◌, ◌/◌, ◌%◌, ◌≤◌, ◌<◌}
 use native.Mathlib.Omega.{arith}
-use mathlib.Core.Path.{◌≡◌, sym, ap, ap₂, ◌∙◌, subst}
+use mathlib.Core.Path.{◌≡◌, refl, sym, ap, ap₂, ◌∙◌, subst}
 use mathlib.Core.Bool.{Bool, true, false}
 use mathlib.Core.Logic.{◌↔◌, ◌⊎◌, inl, inr, ⊎_elim}
 use mathlib.Core.List.{List}
 use lib.ListN.{length, get_or, take, drop}
-use Rattle.common.specs.Pick.{pick}
 use Rattle.common.proofs.Cases.{false_not_true, split}
 use Rattle.doclist.specs.Doclist.{position_limit}
 use Rattle.common.specs.Bits.{contains}
 use Rattle.row.specs.Row.{Hit, bodies_size}
 use Rattle.row.specs.Walk.{Spot, spot, candidates, AheadOf, Finds}
 use Rattle.row.specs.declared.Place.{Place}
-use Rattle.row.specs.declared.Found.{Found}
-use Rattle.row.specs.declared.Found.TheVariants.{At, Done}
+use Rattle.std.specs.Prelude.{Option, Some, None, is_some}
 use Rattle.chain.specs.Chains.{max_candidates, bit_words}
-use Rattle.chain.specs.Keys.{key_of, Ordered, SomeKey, Inserts}
+use Rattle.chain.specs.Keys.{key_of, SomeKey, Inserts}
 use Rattle.chain.specs.Reaching.{old_of, Nth, source_of, NearSource, Steps, limit_of, left_out, InWindow, ReachedBy, Marks, Pushes}
 use Rattle.chain.specs.declared.Window.{Window}
-use Rattle.chain.proofs.Keys.{some_none}
+use Rattle.chain.proofs.Keys.{some_none, some_cut}
 use Rattle.chain.proofs.Windows.{KeyIn, key_in}
-use Rattle.chain.proofs.Walks.{WalkingRow, walking_first, walking_done, walking_nth, walking_room, walking_next, nth_same, nth_inside}
+use Rattle.chain.proofs.Walks.{WalkingRow, walking_done, walking_nth, walking_room, walking_next, nth_same, nth_inside}
 
 -- ---- one key more
 
 module _ (keys : List ℕ) (count : ℕ) (wanted : Bool) (columns column position : ℕ) where
-  pub pushes_not : Ordered keys count → (wanted ≡ false) ⊎ (contains columns column ≡ false) → Pushes keys count wanted columns column position keys count
-  pushes_not ordered out =
-      record {
-        ordered = ordered;
-        has = λ low limit. (
-          λ h. inl h,
-          λ h.
-              ⊎_elim
-              (λ (x : SomeKey keys count low limit). x)
-              (λ x. ⊎_elim (λ o. false_not_true (sym o ∙ x.0)) (λ o. false_not_true (sym o ∙ x.1)) out)
-              h,
-        );
-      }
-
   pub pushes_one : (put : List ℕ) → wanted ≡ true → contains columns column ≡ true → Inserts keys put count (key_of column position)
       → Pushes keys count wanted columns column position put (count + 1)
   pushes_one put w a i =
@@ -51,6 +35,31 @@ module _ (keys : List ℕ) (count : ℕ) (wanted : Bool) (columns column positio
         );
       }
 
+-- ---- the first keys alone
+
+module _ (t : Window) (keys : List ℕ) (n : ℕ) (inside : n ≤ length keys) where
+  window_cut : (column position : ℕ) → InWindow t (take n keys) (length (take n keys)) column position ↔ InWindow t keys n column position
+  window_cut column position = (
+    ⊎_elim (λ x. inl ((some_cut keys n inside _ _).0 x)) (λ x. inr ((some_cut keys n inside _ _).0 x)),
+    ⊎_elim (λ x. inl ((some_cut keys n inside _ _).1 x)) (λ x. inr ((some_cut keys n inside _ _).1 x)),
+  )
+
+  -- mark the same candidates
+  pub marks_cut : (hits : List Hit) (i columns : ℕ) (fresh : Bool) (before marks : List ℕ) (r : Bool)
+      → Marks hits i columns t (take n keys) (length (take n keys)) fresh before marks r
+      → Marks hits i columns t keys n fresh before marks r
+  marks_cut hits i columns fresh before marks r m =
+      record {
+        small = m.small;
+        marks_are = λ j column position q.
+            let x = m.marks_are j column position q in
+            let w = window_cut column position in (
+              λ h. ⊎_elim (λ y. inl y) (λ y. inr (y.0, w.0 y.1)) (x.0 h),
+              λ h. x.1 (⊎_elim (λ (y : old_of fresh before j ≡ true). inl y) (λ y. inr (y.0, w.1 y.1)) h),
+            );
+        some = m.some;
+      }
+
 -- ---- all sources
 
 -- the keys lie after the bits
@@ -58,11 +67,12 @@ abbrev pub keys_of : List ℕ → List ℕ
 keys_of before = take (length before - bit_words) (drop bit_words before)
 
 -- so a change of keys does not change the sources
-pub source_same : (first : Bool) (set : ℕ) (before room : List ℕ) (j column : ℕ) (r : Bool) → r ≡ source_of first set room j column → j < max_candidates
+pub source_same : (origin : Option ℕ) (before room : List ℕ) (j column : ℕ) (r : Bool) → r ≡ source_of origin room j column → j < max_candidates
     → ((n : ℕ) → n < bit_words → get_or room n 0 ≡ get_or before n 0)
-    → r ≡ source_of first set before j column
-source_same first set before room j column r e h same =
-    e ∙ ap (λ (n : ℕ). pick first (contains set column) (contains n (j % 64))) (same (j / 64) (omega arith))
+    → r ≡ source_of origin before j column
+source_same (Some set) before room j column r e h same = e
+source_same None before room j column r e h same =
+    e ∙ ap (λ (n : ℕ). contains n (j % 64)) (same (j / 64) (omega arith))
 
 -- with no key none lies in a window
 window_empty {ℓ} : {X : Type ℓ} (t : Window) (keys : List ℕ) (column position : ℕ) → InWindow t keys 0 column position → X
@@ -92,28 +102,21 @@ module _ (t : Window) (keys : List ℕ) (count : ℕ) (wanted : Bool) (columns c
         (λ x. ⊎_elim (λ y. inl ((pushes.has low out).1 (inr (x.0, x.1, y.0, y.1)))) (λ y. inr ((pushes.has (out + 1) limit).1 (inr (x.0, x.1, y.0, y.1)))) x.2),
   )
 
+pub none_of : (r : Option Place) → is_some r ≡ false → r ≡ None
+none_of None e = refl
+none_of (Some p) e = false_not_true (sym e)
+
 -- a source that was passed lies in the window at a position
 abbrev NearPassed : (ℕ → ℕ → Bool) → List Hit → Window → ℕ → ℕ → ℕ → Type 0
 NearPassed source hits t j column position = (m : NearSource source (candidates t.word hits) t column position) × (m.number < j)
 
-pub record Stepping (leaves starts masks : List ℕ) (i columns : ℕ) (t : Window) (source : ℕ → ℕ → Bool) (hits : List Hit) (keys : List ℕ) (count : ℕ) (fresh : Bool) (marks : List ℕ) (j : ℕ) (r : Found) : Type 0 where
+pub record Stepping (leaves starts masks : List ℕ) (i columns : ℕ) (t : Window) (source : ℕ → ℕ → Bool) (hits : List Hit) (keys : List ℕ) (count : ℕ) (fresh : Bool) (marks : List ℕ) (j : ℕ) (r : Option Place) : Type 0 where
   pub walk : WalkingRow leaves starts masks t.word hits j r
   pub tell : (k column position : ℕ) → Nth (candidates i hits) k (spot column position) → position < position_limit
       → ReachedBy (old_of fresh marks k) columns t keys count column position ↔ ((contains columns column ≡ true) × NearPassed source hits t j column position)
 
 module _ (leaves starts masks : List ℕ) (i columns : ℕ) (t : Window) (source : ℕ → ℕ → Bool) (hits : List Hit) where
-  pub stepping_first : (keys marks : List ℕ) (r : Found) → Finds leaves starts masks t.word (candidates t.word hits) r
-      → Stepping leaves starts masks i columns t source hits keys 0 true marks 0 r
-  stepping_first keys marks r f =
-      record {
-        walk = walking_first leaves starts masks t.word hits r f;
-        tell = λ k column position n s. (
-          λ h. ⊎_elim (λ (x : false ≡ true). false_not_true x) (λ x. window_empty t keys column position x.1) h,
-          λ h. absurd (omega (arith, h.1.1)),
-        );
-      }
-
-  module _ (keys : List ℕ) (count : ℕ) (fresh : Bool) (marks : List ℕ) (j : ℕ) (r : Found)
+  module _ (keys : List ℕ) (count : ℕ) (fresh : Bool) (marks : List ℕ) (j : ℕ) (r : Option Place)
       (n : Stepping leaves starts masks i columns t source hits keys count fresh marks j r) where
     -- the keys are told by new marks, and taken out
     pub stepping_flush : (put : List ℕ) (s : Bool) → Marks hits i columns t keys count fresh marks put s
@@ -137,7 +140,7 @@ module _ (leaves starts masks : List ℕ) (i columns : ℕ) (t : Window) (source
         (subst (λ (x : ℕ). Stepping leaves starts masks i columns t source hits keys x fresh marks j r) (sym g) n))
 
     -- no source is left, and the last keys are told
-    pub stepping_done : r ≡ Done → (put : List ℕ) (s : Bool) → Marks hits i columns t keys count fresh marks put s
+    pub stepping_done : r ≡ None → (put : List ℕ) (s : Bool) → Marks hits i columns t keys count fresh marks put s
         → Steps hits i columns t source put s
     stepping_done e put s m =
         let d = walking_done leaves starts masks t.word hits j r n.walk e in
@@ -155,10 +158,15 @@ module _ (leaves starts masks : List ℕ) (i columns : ℕ) (t : Window) (source
           some = m.some;
         }
 
-    module _ (p : Place) (e : r ≡ At p) where
-      pub stepping_full {ℓ} : {X : Type ℓ} → bodies_size hits ≤ max_candidates → max_candidates ≤ j → X
-      stepping_full h k = absurd (omega (arith, walking_room leaves starts masks t.word hits j r n.walk p e h))
+    -- no row has more candidates than fit
+    pub stepping_full {ℓ} : {X : Type ℓ} → is_some r ≡ true → bodies_size hits ≤ max_candidates → max_candidates ≤ j → X
+    stepping_full {X = X} more h k = go r refl
+      where
+        go : (x : Option Place) → r ≡ x → X
+        go None e = false_not_true (sym (ap is_some e) ∙ more)
+        go (Some p) e = absurd (omega (arith, walking_room leaves starts masks t.word hits j r n.walk p e h))
 
+    module _ (p : Place) (e : r ≡ Some p) where
       here_nth : Nth (candidates t.word hits) j (spot p.column p.position)
       here_nth = walking_nth leaves starts masks t.word hits j r n.walk p e
 
@@ -208,7 +216,7 @@ module _ (leaves starts masks : List ℕ) (i columns : ℕ) (t : Window) (source
               k,
             ))
 
-        pub stepping_push : (x : Found) → ((ahead : List Spot) → AheadOf leaves starts masks t.word p ahead → Finds leaves starts masks t.word ahead x)
+        pub stepping_push : (x : Option Place) → ((ahead : List Spot) → AheadOf leaves starts masks t.word p ahead → Finds leaves starts masks t.word ahead x)
             → Stepping leaves starts masks i columns t source hits put more fresh marks (j + 1) x
         stepping_push x go =
             record {

@@ -13,8 +13,7 @@ use Rattle.common.specs.Bits.{contains}
 use Rattle.row.specs.Row.{Hit, bodies_size}
 use Rattle.row.specs.Walk.{Spot, spot, candidates, AheadOf, Finds}
 use Rattle.row.specs.declared.Place.{Place}
-use Rattle.row.specs.declared.Found.{Found}
-use Rattle.row.specs.declared.Found.TheVariants.{At, Done}
+use Rattle.std.specs.Prelude.{Option, Some, None}
 use Rattle.row.proofs.Rows.{finds_done, finds_at}
 use Rattle.row.proofs.Candidates.{candidates_count}
 use Rattle.chain.specs.Chains.{max_candidates}
@@ -22,29 +21,26 @@ use Rattle.chain.specs.Reaching.{Nth, SomeAllowed}
 
 -- ---- whether a word stands in one of the columns
 
-pub record SeekingColumn (leaves starts masks : List ℕ) (i columns : ℕ) (hits : List Hit) (r : Found) : Type 0 where
+pub record SeekingColumn (leaves starts masks : List ℕ) (i columns : ℕ) (hits : List Hit) (r : Option Place) : Type 0 where
   pub ahead : List Spot
   pub finds : Finds leaves starts masks i ahead r
   pub decides : SomeAllowed (candidates i hits) columns ↔ SomeAllowed ahead columns
 
 module _ (leaves starts masks : List ℕ) (i columns : ℕ) (hits : List Hit) where
-  pub seeking_first : (r : Found) → Finds leaves starts masks i (candidates i hits) r → SeekingColumn leaves starts masks i columns hits r
-  seeking_first r f = record { ahead = candidates i hits; finds = f; decides = (λ h. h, λ h. h) }
-
-  module _ (r : Found) (s : SeekingColumn leaves starts masks i columns hits r) where
-    pub seeking_done : r ≡ Done → (false ≡ true) ↔ SomeAllowed (candidates i hits) columns
+  module _ (r : Option Place) (s : SeekingColumn leaves starts masks i columns hits r) where
+    pub seeking_done : r ≡ None → (false ≡ true) ↔ SomeAllowed (candidates i hits) columns
     seeking_done e =
         let n = finds_done leaves starts masks i s.ahead r s.finds e in
         fails_exactly (λ h. let m = s.decides.0 h in Memᴰ.not-nil (subst (λ (l : List Spot). Memᴰ m.0 l) n m.1))
 
-    module _ (p : Place) (e : r ≡ At p) where
+    module _ (p : Place) (e : r ≡ Some p) where
       pub seeking_here : contains columns p.column ≡ true → (true ≡ true) ↔ SomeAllowed (candidates i hits) columns
       seeking_here a =
           let f = finds_at leaves starts masks i s.ahead r p s.finds e in
           let x : Spot = spot p.column p.position in
           passes_exactly (s.decides.1 (x, subst (λ (l : List Spot). Memᴰ x l) (sym f.1) (Memᴰ.head refl), a))
 
-      pub seeking_next : (n : Found) → contains columns p.column ≡ false
+      pub seeking_next : (n : Option Place) → contains columns p.column ≡ false
           → ((ahead : List Spot) → AheadOf leaves starts masks i p ahead → Finds leaves starts masks i ahead n)
           → SeekingColumn leaves starts masks i columns hits n
       seeking_next n a go =
@@ -67,21 +63,21 @@ module _ (leaves starts masks : List ℕ) (i columns : ℕ) (hits : List Hit) wh
 -- ---- numbered candidates
 
 -- the candidates from the number j on are ahead
-pub record WalkingRow (leaves starts masks : List ℕ) (i : ℕ) (hits : List Hit) (j : ℕ) (r : Found) : Type 0 where
+pub record WalkingRow (leaves starts masks : List ℕ) (i : ℕ) (hits : List Hit) (j : ℕ) (r : Option Place) : Type 0 where
   pub ahead : List Spot
   pub finds : Finds leaves starts masks i ahead r
   pub left : drop j (candidates i hits) ≡ ahead
 
 module _ (leaves starts masks : List ℕ) (i : ℕ) (hits : List Hit) where
-  pub walking_first : (r : Found) → Finds leaves starts masks i (candidates i hits) r → WalkingRow leaves starts masks i hits 0 r
+  pub walking_first : (r : Option Place) → Finds leaves starts masks i (candidates i hits) r → WalkingRow leaves starts masks i hits 0 r
   walking_first r f = record { ahead = candidates i hits; finds = f; left = refl }
 
-  module _ (j : ℕ) (r : Found) (w : WalkingRow leaves starts masks i hits j r) where
-    pub walking_done : r ≡ Done → length (candidates i hits) ≤ j
+  module _ (j : ℕ) (r : Option Place) (w : WalkingRow leaves starts masks i hits j r) where
+    pub walking_done : r ≡ None → length (candidates i hits) ≤ j
     walking_done e =
         drop_outside (candidates i hits) j (w.left ∙ finds_done leaves starts masks i w.ahead r w.finds e)
 
-    module _ (p : Place) (e : r ≡ At p) where
+    module _ (p : Place) (e : r ≡ Some p) where
       pub walking_nth : Nth (candidates i hits) j (spot p.column p.position)
       walking_nth = let f = finds_at leaves starts masks i w.ahead r p w.finds e in (f.0, w.left ∙ f.1)
 
@@ -94,7 +90,7 @@ module _ (leaves starts masks : List ℕ) (i : ℕ) (hits : List Hit) where
       pub walking_room : bodies_size hits ≤ max_candidates → j < max_candidates
       walking_room h = let n = walking_inside in omega (arith, candidates_count i hits)
 
-      pub walking_next : (n : Found)
+      pub walking_next : (n : Option Place)
           → ((ahead : List Spot) → AheadOf leaves starts masks i p ahead → Finds leaves starts masks i ahead n)
           → WalkingRow leaves starts masks i hits (j + 1) n
       walking_next n go =

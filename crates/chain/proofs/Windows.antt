@@ -1,18 +1,18 @@
 -- Windows: what the arrays say of them, and what their keys are.
+use Rattle.std.specs.Prelude.{min}
 use Prim.Native.Nat.{ℕ, ◌+◌, ◌-◌, ◌*◌, ◌≤◌, ◌<◌}
 use native.Mathlib.Omega.{arith}
 use mathlib.Core.Path.{◌≡◌, sym, ap, ap₂, ◌∙◌, subst₂}
-use mathlib.Core.Bool.{Bool, true, false}
+use mathlib.Core.Bool.{Bool, true}
 use mathlib.Core.Logic.{◌↔◌, ◌⊎◌, inl, inr, ⊎_elim}
 use mathlib.Core.List.{List}
 use lib.ListN.{get_or}
-use lib.Dec.{ltb}
 use borrow.Author.Tests.{ne_eqb, lt-ltb, le-ltb}
-use Rattle.common.proofs.Cases.{split, same_or, pick_case, fails_exactly, true_not_false}
+use Rattle.common.proofs.Cases.{split, same_or}
 use Rattle.doclist.specs.Doclist.{position_limit}
 use Rattle.chain.specs.Chains.{run_end}
 use Rattle.chain.specs.Keys.{column_size, key_of, SomeKey}
-use Rattle.chain.specs.Reaching.{limit_of, left_out, distance_at, window_of, operand_start, InWindow}
+use Rattle.chain.specs.Reaching.{limit_of, left_out, distance_at, window_of, InWindow}
 use Rattle.chain.specs.declared.Window.{Window}
 
 -- the window after NEAR
@@ -20,6 +20,10 @@ pub window_near : (ties distances : List ℕ) (from end n next : ℕ) → (get_o
     → ◌≡◌ {A = Window} (record { word = end - 1; back = 1 + n; ahead = next - from + n; apart = next - end - 1 }) (window_of ties distances from end)
 window_near ties distances from end n next h e f =
     ap₂ (λ (n next : ℕ). record { word = end - 1; back = 1 + n; ahead = next - from + n; apart = next - end - 1 }) e f ∙ sym (simp (ne_eqb (get_or ties end 0) 1 h))
+
+-- the lesser of two numbers
+pub min_is : (m n : ℕ) → min m n ≡ left_out m n
+min_is m n = split m n (λ h. simp (lt-ltb m n h) (omega arith)) (λ h. simp (le-ltb m n h) (omega arith))
 
 limit_is : (n : ℕ) → (limit_of n ≤ n) × (limit_of n ≤ column_size) × (n < column_size → limit_of n ≡ n) × (column_size ≤ n → limit_of n ≡ column_size)
 limit_is n =
@@ -89,36 +93,6 @@ module _ (t : Window) (keys : List ℕ) (count column position low limit apart :
   out_is : apart ≡ left_out (limit_of (position + t.ahead)) (position + t.apart)
   out_is = g ∙ ap (λ (n : ℕ). left_out n (position + t.apart)) f
 
-  -- where no key lies between the ends of the window, none lies in it
-  pub window_none : position < position_limit → (r : Bool) → r ≡ true ↔ SomeKey keys count (column * column_size + low) (column * column_size + limit) → r ≡ false
-      → (false ≡ true) ↔ InWindow t keys count column position
-  window_none small r h no_key = fails_exactly (λ w. true_not_false r (h.1 (whole w)) no_key)
-    where
-      l : (limit_of (position + t.ahead) ≤ position + t.ahead) × (limit_of (position + t.ahead) ≤ column_size) × (position + t.ahead < column_size → limit_of (position + t.ahead) ≡ position + t.ahead) × (column_size ≤ position + t.ahead → limit_of (position + t.ahead) ≡ column_size)
-      l = limit_is (position + t.ahead)
-
-      m : (left_out limit (position + t.apart) ≤ limit) × (left_out limit (position + t.apart) ≤ position + t.apart) × (position + t.apart < limit → left_out limit (position + t.apart) ≡ position + t.apart) × (limit ≤ position + t.apart → left_out limit (position + t.apart) ≡ limit)
-      m = left_out_is limit (position + t.apart)
-
-      -- the window's limit does not lie before the position
-      far : position ≤ limit
-      far = split (position + t.ahead) column_size (λ q. omega (arith, l.2 q)) (λ q. omega (arith, l.3 q))
-
-      before : low ≤ apart
-      before = split (position + t.apart) limit (λ q. omega (arith, m.2 q, far)) (λ q. omega (arith, m.3 q, far))
-
-      whole : InWindow t keys count column position → SomeKey keys count (column * column_size + low) (column * column_size + limit)
-      whole w =
-          let p = m.0 in
-          let b = before in
-          ⊎_elim
-          (λ (x : SomeKey keys count (key_of column (position - t.back)) (key_of column (left_out (limit_of (position + t.ahead)) (position + t.apart)))). (x.0, x.1, omega (arith, x.2), omega (arith, x.3, out_is)))
-          (λ x. (x.0, x.1, omega (arith, x.2, out_is), omega (arith, x.3)))
-          w
-
-  pub window_first : SomeKey keys count (column * column_size + low) (column * column_size + apart) → InWindow t keys count column position
-  window_first h = inl (subst₂ (λ (a b : ℕ). SomeKey keys count (key_of column a) (key_of column b)) e out_is h)
-
   -- of the keys before the place that is left out there is none
   pub window_second : (r : Bool) → (SomeKey keys count (column * column_size + low) (column * column_size + apart) → ⊥)
       → r ≡ true ↔ SomeKey keys count (column * column_size + apart + 1) (column * column_size + limit)
@@ -129,7 +103,3 @@ module _ (t : Window) (keys : List ℕ) (count column position low limit apart :
         (λ x. absurd (none (subst₂ (λ (a b : ℕ). SomeKey keys count (key_of column a) (key_of column b)) (sym e) (sym out_is) x)))
         (λ x. h.1 (subst₂ (λ (a b : ℕ). SomeKey keys count (key_of column a + 1) (key_of column b)) (sym out_is) (sym f) x)),
   )
-
--- an operand does not begin after its words
-pub start_before : (ties : List ℕ) (from end : ℕ) → from < end → operand_start ties from end < end + 1
-start_before ties from end h = pick_case (λ (n : ℕ). n < end + 1) (ltb 1 (get_or ties end 0)) end from (λ _. omega arith) (λ _. omega arith)

@@ -8,7 +8,7 @@ use Rattle.meaning.specs.Satisfies.{Live, StandsAt, Standing, Consecutive, Chose
 use Rattle.row.specs.Row.{Hit}
 use Rattle.row.specs.Walk.{Spot, candidates}
 use Rattle.chain.specs.Chains.{TiesAre, BeginsChain, RowFits, Agrees, MarkRoom}
-use Rattle.chain.specs.Reaching.{Nth, source_of}
+use Rattle.chain.specs.Reaching.{Nth, source_of, origin_of}
 
 -- after a position, with which `size` words of the operand are placed, its other words stand and the links can be chosen
 abbrev pub ChainAhead : Standing → List QueryWord → List Link → ℕ → ℕ → ℕ → Type 0
@@ -41,6 +41,6 @@ Continues ties distances columns from end first leaves starts masks before marks
     → RowFits leaves starts masks hits
     → Agrees (StandsAt live docid) nodes hits
     → MarkRoom before marks
-    → InsideColumns (get_or columns from 0) (source_of first (get_or columns from 0) before) (candidates (end - 1) hits)
-    → (0 < length ws + length todo) ⊎ GoesOn (StandsAt live docid) [] [] (end - from) (source_of first (get_or columns from 0) before) (candidates (end - 1) hits)
-    → (r ≡ true) ↔ GoesOn (StandsAt live docid) ws todo (end - from) (source_of first (get_or columns from 0) before) (candidates (end - 1) hits)
+    → InsideColumns (get_or columns from 0) (source_of (origin_of first (get_or columns from 0)) before) (candidates (end - 1) hits)
+    → (0 < length ws + length todo) ⊎ GoesOn (StandsAt live docid) [] [] (end - from) (source_of (origin_of first (get_or columns from 0)) before) (candidates (end - 1) hits)
+    → (r ≡ true) ↔ GoesOn (StandsAt live docid) ws todo (end - from) (source_of (origin_of first (get_or columns from 0)) before) (candidates (end - 1) hits)

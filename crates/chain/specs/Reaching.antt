@@ -2,7 +2,7 @@
 -- finds them. A candidate of the chain's first word is a source if its column is allowed; a candidate of a further word, if it
 -- is reached: its column is allowed, and a source of the word before lies in its window. Which candidates are reached is
 -- kept in bits, 64 to a word.
-use Rattle.std.specs.Prelude.{ℕ, ◌+◌, ◌-◌, ◌/◌, ◌%◌, ◌^◌, ◌≤◌, ◌<◌, ◌≡◌, Bool, true, false, ◌↔◌, ◌⊎◌, get_or, drop, set, eqb, ltb}
+use Rattle.std.specs.Prelude.{ℕ, ◌+◌, ◌-◌, ◌/◌, ◌%◌, ◌^◌, ◌≤◌, ◌<◌, ◌≡◌, Bool, true, false, ◌↔◌, ◌⊎◌, get_or, drop, set, eqb, ltb, Option, Some, None}
 use mathlib.Core.List.{List, ◌∷◌, Memᴰ}
 use Rattle.std.specs.Int.Bits.{bit_xor}
 use Rattle.common.specs.Pick.{pick}
@@ -57,8 +57,13 @@ pub record MarksAre (cs : List Spot) (Holds : ℕ → ℕ → ℕ → Type 0) (m
 -- ---- sources and windows
 
 -- the chain so far can end at a candidate of the word before
-abbrev pub source_of : Bool → ℕ → List ℕ → ℕ → ℕ → Bool
-source_of first set before j column = pick first (contains set column) (is_marked before j)
+abbrev pub source_of : Option ℕ → List ℕ → ℕ → ℕ → Bool
+source_of (Some set) before j column = contains set column
+source_of None before j column = is_marked before j
+
+-- the columns of the word before, if that is the chain's first
+abbrev pub origin_of : Bool → ℕ → Option ℕ
+origin_of first set = pick first (Some set) None
 
 -- a source lies in the window at a position
 pub record NearSource (source : ℕ → ℕ → Bool) (cs : List Spot) (t : Window) (column position : ℕ) : Type 0 where

@@ -13,7 +13,10 @@ ghost use Rattle.chain.specs.Keys.{Ordered, Bound, SomeKey, Inserts};
 ghost use Rattle.chain.specs.Reaching.{is_marked, old_of, word_with, put_at, distance_at, SomeAllowed, Bounded, ReachedBy, InWindow, Pushes, source_of, Marks, Steps, window_of, operand_start};
 ghost use Rattle.chain.specs.Going.{Continues};
 
-use row::Found;
+// How a word is tied to the one before: 1, the next word of its phrase; 2 and 3, the first after a NEAR without and with a number. A word that begins an
+// operand of AND, OR or NOT has 0.
+use lexer::{CONTINUES, NEARS, NEARS_WITHIN};
+use row::Row;
 
 // A row has at most as many positions as the leaves have bytes.
 const MAX_CANDIDATES: usize = 65536;
@@ -30,20 +33,20 @@ const WORD_BITS: usize = 64;
 // The answer where the arrays are too short.
 const TOO_SHORT: bool = false;
 
-// How a word is tied to the one before: it is the next of its phrase.
-const CONTINUES: u8 = 1;
-
-// It is the first after a NEAR with no number.
-const NEAR_BARE: u8 = 2;
-
-// It is the first after a NEAR with a number. A word that begins an operand of AND, OR or NOT has 0.
-const NEAR_WRITTEN: u8 = 3;
-
 // The distance of a NEAR with no number.
 const BARE_DISTANCE: u64 = 3;
 
 // More than any position.
 const COLUMN_SIZE: u64 = 0x1_0000_0000;
+
+// The words of a query: how each is tied to the one before, the distance at NEAR, and the columns that it may stand in.
+// The ties are numbers, not an enum: `holds` promises (`otherwise`, `frame`) and `chain_end` computes for every byte.
+#[derive(Clone, Copy)]
+pub struct Words<'a> {
+    pub ties: &'a [u8],
+    pub distances: &'a [u16],
+    pub columns: &'a [u16],
+}
 
 // Where a word may stand beside the one before it in its chain: at `position`, where that one stands at a `place` with
 // position <= place + back, place < position + ahead and place != position + apart.
@@ -83,16 +86,10 @@ fn with_bit(word: u64, k: usize, set: bool) -> u64
     requires { k < 64 }
     ensures { result ≡ word_with word k set }
 {
-    if (word >> k) % 2 == 1 {
-        if set {
-            return word;
-        }
-        return word ^ (1u64 << k);
+    if ((word >> k) % 2 == 1) == set {
+        return word;
     }
-    if set {
-        return word ^ (1u64 << k);
-    }
-    word
+    word ^ (1u64 << k)
 }
 
 // Marks candidate `j` or not.
@@ -113,77 +110,50 @@ fn run_end(ties: &[u8], from: usize, most: u8) -> usize
     if ties.len() <= from {
         return from;
     }
-    let mut end = from + 1;
-    while end < ties.len() {
-        let tie = ties[end];
-        if tie < CONTINUES {
-            return end;
-        }
-        if most < tie {
-            return end;
-        }
-        end += 1;
+    let ends = |tie: &u8| *tie < CONTINUES || most < *tie;
+    match ties[from + 1..].iter().position(ends) {
+        Some(words) => from + 1 + words,
+        None => ties.len(),
     }
-    end
 }
 
 // The first word after a chain that begins with the word `from`.
 pub fn chain_end(ties: &[u8], from: usize) -> usize
     ensures { result ≡ chain_end ties.now from }
 {
-    run_end(ties, from, NEAR_WRITTEN)
+    run_end(ties, from, NEARS_WITHIN)
 }
 
 // The distance at the NEAR before a word.
-fn distance(ties: &[u8], distances: &[u16], at: usize) -> u64
-    requires { (at < length ties.now) × (at < length distances.now) }
-    ensures { (result ≡ distance_at ties.now distances.now at) × (result < 65536) }
+fn distance(words: &Words, at: usize) -> u64
+    requires { (at < length words.now.ties.now) × (at < length words.now.distances.now) }
+    ensures { (result ≡ distance_at words.now.ties.now words.now.distances.now at) × (result < 65536) }
 {
-    if ties[at] == NEAR_BARE {
+    if words.ties[at] == NEARS {
         return BARE_DISTANCE;
     }
-    distances[at] as u64
+    words.distances[at] as u64
 }
 
 // Whether the query's word number `i` stands in one of the columns.
-fn stands_in(leaves: &[u8], starts: &[u16], masks: &[u16], i: usize, columns: u16) -> bool
-    ensures { (hits : List Hit) → WholeRow leaves.now starts.now masks.now hits → (result ≡ true) ↔ SomeAllowed (candidates i hits) columns }
+fn stands_in(row: &Row, i: usize, columns: u16) -> bool
+    ensures { (hits : List Hit) → WholeRow row.now.leaves.now row.now.starts.now row.now.masks.now hits → (result ≡ true) ↔ SomeAllowed (candidates i hits) columns }
 {
-    let mut found = row::first(leaves, starts, masks, i);
-    loop {
-        let Found::At(place) = found else {
-            return false;
-        };
+    let mut found = row.first(i);
+    while let Some(place) = found {
         if row::contains(columns, place.column as usize) {
             return true;
         }
-        found = row::advance(leaves, starts, masks, i, place);
+        found = row.advance(i, place);
     }
-}
-
-// The first of the keys that is not below `key`.
-fn lower_bound(keys: &[u64], count: usize, key: u64) -> usize
-    requires { count ≤ length keys.now }
-    ensures { (result ≤ count) × (Ordered keys.now count → Bound keys.now count key result) }
-{
-    let mut low: usize = 0;
-    let mut high = count;
-    while low < high {
-        let middle = low + (high - low) / 2;
-        if keys[middle] < key {
-            low = middle + 1;
-        } else {
-            high = middle;
-        }
-    }
-    low
+    false
 }
 
 // Whether one of the keys lies from `low` on, below `limit`.
-fn some_key(keys: &[u64], count: usize, low: u64, limit: u64) -> bool
-    requires { count ≤ length keys.now }
-    ensures { Ordered keys.now count → (result ≡ true) ↔ SomeKey keys.now count low limit }
+fn some_key(keys: &[u64], low: u64, limit: u64) -> bool
+    ensures { Ordered keys.now (length keys.now) → (result ≡ true) ↔ SomeKey keys.now (length keys.now) low limit }
 {
+    let count = keys.len();
     if count == 0 {
         return false;
     }
@@ -193,7 +163,7 @@ fn some_key(keys: &[u64], count: usize, low: u64, limit: u64) -> bool
     if limit <= keys[0] {
         return false;
     }
-    let at = lower_bound(keys, count, low);
+    let at = keys.partition_point(|key| *key < low);
     if count <= at {
         return false;
     }
@@ -205,20 +175,19 @@ fn insert(keys: &mut [u64], count: usize, key: u64)
     requires { count < length keys.old }
     ensures { Ordered keys.old count → Inserts keys.old keys.new count key }
 {
-    let mut at = count;
-    while 0 < at {
-        let before = keys[at - 1];
-        if before <= key {
-            keys[at] = key;
+    // In one pass from the end: keys mostly come in order.
+    for at in (0..count).rev() {
+        if keys[at] <= key {
+            keys[at + 1] = key;
             return;
         }
-        keys[at] = before;
-        at -= 1;
+        keys[at + 1] = keys[at];
     }
     keys[0] = key;
 }
 
 // Adds the key of a position, if it is wanted and its column is allowed. How many keys there are then.
+// The keys are the first of a lent room: the box has no memory that grows.
 fn push(
     keys: &mut [u64],
     count: usize,
@@ -241,31 +210,22 @@ fn push(
 }
 
 // Whether one of the keys lies in the window at a position.
-fn in_window(tie: Window, keys: &[u64], count: usize, column: u64, position: u64) -> bool
-    requires { (column < 16) × (position < position_limit) × Bounded tie × (count ≤ length keys.now) }
-    ensures { Ordered keys.now count → (result ≡ true) ↔ InWindow tie keys.now count column position }
+fn in_window(tie: Window, keys: &[u64], column: u64, position: u64) -> bool
+    requires { (column < 16) × (position < position_limit) × Bounded tie }
+    ensures { Ordered keys.now (length keys.now) → (result ≡ true) ↔ InWindow tie keys.now (length keys.now) column position }
 {
     let base = column * COLUMN_SIZE;
-    let mut low: u64 = 0;
-    if tie.back < position {
-        low = position - tie.back;
-    }
-    let mut limit = position + tie.ahead;
-    if COLUMN_SIZE < limit {
-        limit = COLUMN_SIZE;
-    }
-    let mut apart = position + tie.apart;
-    if limit < apart {
-        apart = limit;
-    }
+    let low = position.saturating_sub(tie.back);
+    let limit = COLUMN_SIZE.min(position + tie.ahead);
+    let apart = limit.min(position + tie.apart);
     // Most windows have no key: the place that is left out is asked for only where there is one.
-    if !some_key(keys, count, base + low, base + limit) {
+    if !some_key(keys, base + low, base + limit) {
         return false;
     }
-    if some_key(keys, count, base + low, base + apart) {
+    if some_key(keys, base + low, base + apart) {
         return true;
     }
-    some_key(keys, count, base + apart + 1, base + limit)
+    some_key(keys, base + apart + 1, base + limit)
 }
 
 // Whether a candidate was reached before, or is by one of the keys.
@@ -274,12 +234,11 @@ fn is_reached(
     columns: u16,
     tie: Window,
     keys: &[u64],
-    count: usize,
     column: u64,
     position: u64,
 ) -> bool
-    requires { (position < position_limit) × Bounded tie × (count ≤ length keys.now) }
-    ensures { Ordered keys.now count → (result ≡ true) ↔ ReachedBy old columns tie keys.now count column position }
+    requires { (position < position_limit) × Bounded tie }
+    ensures { Ordered keys.now (length keys.now) → (result ≡ true) ↔ ReachedBy old columns tie keys.now (length keys.now) column position }
 {
     if old {
         return true;
@@ -287,91 +246,77 @@ fn is_reached(
     if !row::contains(columns, column as usize) {
         return false;
     }
-    in_window(tie, keys, count, column, position)
+    in_window(tie, keys, column, position)
 }
 
 // Marks the candidates of the word `i` that are reached by one of the keys. Marks that are not fresh stay. Whether there are
 // any.
 fn mark(
-    leaves: &[u8],
-    starts: &[u16],
-    masks: &[u16],
+    row: &Row,
     i: usize,
     columns: u16,
     tie: Window,
     keys: &[u64],
-    count: usize,
     fresh: bool,
     marks: &mut [u64],
 ) -> bool
-    requires { Bounded tie × (count ≤ length keys.now) }
-    ensures { (hits : List Hit) → RowFits leaves.now starts.now masks.now hits → mark_words ≤ length marks.old → Ordered keys.now count → Marks hits i columns tie keys.now count fresh marks.old marks.new result }
+    requires { Bounded tie }
+    ensures { (hits : List Hit) → RowFits row.now.leaves.now row.now.starts.now row.now.masks.now hits → mark_words ≤ length marks.old → Ordered keys.now (length keys.now) → Marks hits i columns tie keys.now (length keys.now) fresh marks.old marks.new result }
 {
     let mut some = false;
-    let mut j: usize = 0;
-    let mut found = row::first(leaves, starts, masks, i);
-    loop {
-        let Found::At(place) = found else {
+    let mut found = row.first(i);
+    for j in 0..MAX_CANDIDATES {
+        let Some(place) = found else {
             return some;
         };
-        if MAX_CANDIDATES <= j {
-            return some;
-        }
         let old = was_marked(fresh, marks, j);
-        let reached = is_reached(old, columns, tie, keys, count, place.column, place.position);
+        let reached = is_reached(old, columns, tie, keys, place.column, place.position);
         put_mark(marks, j, reached);
         some = some || reached;
-        j += 1;
-        found = row::advance(leaves, starts, masks, i, place);
+        found = row.advance(i, place);
     }
+    some
 }
 
-// Whether the chain so far can end at a candidate: of the first word, in its columns; of another, where it is marked.
-fn is_source(first: bool, set: u16, before: &[u64], j: usize, column: u64) -> bool
-    ensures { result ≡ source_of first set before.now j column }
+// Whether the chain so far can end at a candidate: of the first word, in its columns `origin`; of another, where it is marked.
+fn is_source(origin: Option<u16>, before: &[u64], j: usize, column: u64) -> bool
+    ensures { result ≡ source_of origin before.now j column }
 {
-    if first {
-        return row::contains(set, column as usize);
+    match origin {
+        Some(set) => row::contains(set, column as usize),
+        None => is_marked(before, j),
     }
-    is_marked(before, j)
 }
 
 // Marks the candidates of the word `i`, in the columns of `set`, that are reached from the word before it; if that is the first of
 // the chain, from its candidates in the columns of `origin`. The keys lie after the marks of the word before. Whether any are
 // reached.
 fn step(
-    leaves: &[u8],
-    starts: &[u16],
-    masks: &[u16],
+    row: &Row,
     i: usize,
     set: u16,
     tie: Window,
-    first: bool,
-    origin: u16,
+    origin: Option<u16>,
     before: &mut [u64],
     marks: &mut [u64],
 ) -> bool
     requires { Bounded tie × (bit_words < length before.old) }
-    ensures { (hits : List Hit) → RowFits leaves.now starts.now masks.now hits → mark_words ≤ length marks.old → Steps hits i set tie (source_of first origin before.old) marks.new result }
+    ensures { (hits : List Hit) → RowFits row.now.leaves.now row.now.starts.now row.now.masks.now hits → mark_words ≤ length marks.old → Steps hits i set tie (source_of origin before.old) marks.new result }
 {
     let mut fresh = true;
     let mut len: usize = 0;
-    let mut j: usize = 0;
-    let mut found = row::first(leaves, starts, masks, tie.word);
-    loop {
-        let keys = &before[BIT_WORDS..];
-        let Found::At(place) = found else {
-            return mark(leaves, starts, masks, i, set, tie, keys, len, fresh, marks);
+    let mut found = row.first(tie.word);
+    for j in 0..MAX_CANDIDATES {
+        let Some(place) = found else {
+            break;
         };
-        if MAX_CANDIDATES <= j {
-            return false;
-        }
+        let keys = &before[BIT_WORDS..];
         if keys.len() <= len {
-            mark(leaves, starts, masks, i, set, tie, keys, len, fresh, marks);
+            mark(row, i, set, tie, &keys[..len], fresh, marks);
             fresh = false;
             len = 0;
         }
-        let wanted = is_source(first, origin, before, j, place.column);
+        let wanted = is_source(origin, before, j, place.column);
         len = push(
             &mut before[BIT_WORDS..],
             len,
@@ -380,17 +325,22 @@ fn step(
             place.column,
             place.position,
         );
-        j += 1;
-        found = row::advance(leaves, starts, masks, tie.word, place);
+        found = row.advance(tie.word, place);
     }
+    // No row has more candidates.
+    if found.is_some() {
+        return false;
+    }
+    let keys = &before[BIT_WORDS..];
+    mark(row, i, set, tie, &keys[..len], fresh, marks)
 }
 
 // Where the word `end` may stand beside the word before it, whose operand begins with the word `from`.
-fn window_at(ties: &[u8], distances: &[u16], from: usize, end: usize) -> Window
-    requires { (from < end) × (end < length ties.now) × (length ties.now ≤ length distances.now) }
-    ensures { (result ≡ window_of ties.now distances.now from end) × Bounded result }
+fn window_at(words: &Words, from: usize, end: usize) -> Window
+    requires { (from < end) × (end < length words.now.ties.now) × (length words.now.ties.now ≤ length words.now.distances.now) }
+    ensures { (result ≡ window_of words.now.ties.now words.now.distances.now from end) × Bounded result }
 {
-    if ties[end] == CONTINUES {
+    if words.ties[end] == CONTINUES {
         return Window {
             word: end - 1,
             back: 1,
@@ -398,8 +348,8 @@ fn window_at(ties: &[u8], distances: &[u16], from: usize, end: usize) -> Window
             apart: 0,
         };
     }
-    let n = distance(ties, distances, end);
-    let next = run_end(ties, end, CONTINUES);
+    let n = distance(words, end);
+    let next = run_end(words.ties, end, CONTINUES);
     Window {
         word: end - 1,
         back: 1 + n,
@@ -420,118 +370,70 @@ fn operand_start(ties: &[u8], from: usize, end: usize) -> usize
 }
 
 // Whether the words of a chain from the word `end` on can be reached. The chain so far can end at the marked candidates of the
-// word before, or at all of its columns if that is the first; its operand begins with the word `from`.
+// word before, or at all of its columns if that is the first; its operand begins with the word `from`. The two rooms change
+// places from word to word, so they are two parameters.
 fn links(
-    ties: &[u8],
-    distances: &[u16],
-    columns: &[u16],
+    words: &Words,
     from: usize,
     end: usize,
     first: bool,
-    leaves: &[u8],
-    starts: &[u16],
-    masks: &[u16],
+    row: &Row,
     before: &mut [u64],
     marks: &mut [u64],
 ) -> bool
-    requires { (from < end) × (end ≤ length ties.now) × (length ties.now ≤ length distances.now) × (length ties.now ≤ length columns.now) × (bit_words < length before.old) × (bit_words < length marks.old) }
-    ensures { Continues ties.now distances.now columns.now from end first leaves.now starts.now masks.now before.old marks.old result }
+    requires { (from < end) × (end ≤ length words.now.ties.now) × (length words.now.ties.now ≤ length words.now.distances.now) × (length words.now.ties.now ≤ length words.now.columns.now) × (bit_words < length before.old) × (bit_words < length marks.old) }
+    ensures { Continues words.now.ties.now words.now.distances.now words.now.columns.now from end first row.now.leaves.now row.now.starts.now row.now.masks.now before.old marks.old result }
 {
+    let ties = words.ties;
+    let columns = words.columns;
     if ties.len() <= end {
         return true;
     }
     if ties[end] < CONTINUES {
         return true;
     }
-    let tie = window_at(ties, distances, from, end);
-    if !step(
-        leaves,
-        starts,
-        masks,
-        end,
-        columns[end],
-        tie,
-        first,
-        columns[from],
-        before,
-        marks,
-    ) {
+    let tie = window_at(words, from, end);
+    let origin = if first { Some(columns[from]) } else { None };
+    if !step(row, end, columns[end], tie, origin, before, marks) {
         return false;
     }
     let start = operand_start(ties, from, end);
-    links(
-        ties,
-        distances,
-        columns,
-        start,
-        end + 1,
-        false,
-        leaves,
-        starts,
-        masks,
-        marks,
-        before,
-    )
+    links(words, start, end + 1, false, row, marks, before)
 }
 
 // Whether a chain of several words that begins with the word `from` holds.
-fn several(
-    ties: &[u8],
-    distances: &[u16],
-    columns: &[u16],
-    from: usize,
-    leaves: &[u8],
-    starts: &[u16],
-    masks: &[u16],
-    marks: &mut [u64],
-    spare: &mut [u64],
-) -> bool
-    requires { ChainLengths ties.now distances.now columns.now from marks.old spare.old × (from + 1 < chain_end ties.now from) }
-    ensures content { DecidesChain ties.now distances.now columns.now from leaves.now starts.now masks.now marks.old spare.old result }
+fn several(words: &Words, from: usize, row: &Row, marks: &mut [u64], spare: &mut [u64]) -> bool
+    requires { ChainLengths words.now.ties.now words.now.distances.now words.now.columns.now from marks.old spare.old × (from + 1 < chain_end words.now.ties.now from) }
+    ensures content { DecidesChain words.now.ties.now words.now.distances.now words.now.columns.now from row.now.leaves.now row.now.starts.now row.now.masks.now marks.old spare.old result }
     ensures frame { RoomsKept marks.old marks.new spare.old spare.new }
 {
     let end = MARK_WORDS;
     links(
-        ties,
-        distances,
-        columns,
+        words,
         from,
         from + 1,
         true,
-        leaves,
-        starts,
-        masks,
+        row,
         &mut marks[..end],
         &mut spare[..end],
     )
 }
 
-// Whether the chain that begins with the word `from` holds in a row. The words of the query are given by how each is tied to
-// the one before, the distance at NEAR and the columns that it may stand in; `marks` and `spare` are room to work in, of
-// `MARK_WORDS` words each.
-pub fn holds(
-    ties: &[u8],
-    distances: &[u16],
-    columns: &[u16],
-    from: usize,
-    leaves: &[u8],
-    starts: &[u16],
-    masks: &[u16],
-    marks: &mut [u64],
-    spare: &mut [u64],
-) -> bool
-    ensures content { DecidesChain ties.now distances.now columns.now from leaves.now starts.now masks.now marks.old spare.old result }
-    ensures single { chain_end ties.now from ≡ from + 1 → (marks.new ≡ marks.old) × (spare.new ≡ spare.old) }
-    ensures otherwise { (ChainLengths ties.now distances.now columns.now from marks.old spare.old → ⊥) → NotEvaluated marks.old marks.new spare.old spare.new result }
+// Whether the chain that begins with the word `from` holds in a row. `marks` and `spare` are room to work in, of `MARK_WORDS`
+// words each.
+pub fn holds(words: &Words, from: usize, row: &Row, marks: &mut [u64], spare: &mut [u64]) -> bool
+    ensures content { DecidesChain words.now.ties.now words.now.distances.now words.now.columns.now from row.now.leaves.now row.now.starts.now row.now.masks.now marks.old spare.old result }
+    ensures single { chain_end words.now.ties.now from ≡ from + 1 → (marks.new ≡ marks.old) × (spare.new ≡ spare.old) }
+    ensures otherwise { (ChainLengths words.now.ties.now words.now.distances.now words.now.columns.now from marks.old spare.old → ⊥) → NotEvaluated marks.old marks.new spare.old spare.new result }
     ensures frame { RoomsKept marks.old marks.new spare.old spare.new }
 {
-    if ties.len() <= from {
+    if words.ties.len() <= from {
         return TOO_SHORT;
     }
-    if distances.len() < ties.len() {
+    if words.distances.len() < words.ties.len() {
         return TOO_SHORT;
     }
-    if columns.len() < ties.len() {
+    if words.columns.len() < words.ties.len() {
         return TOO_SHORT;
     }
     if marks.len() < MARK_WORDS {
@@ -540,10 +442,8 @@ pub fn holds(
     if spare.len() < MARK_WORDS {
         return TOO_SHORT;
     }
-    if chain_end(ties, from) == from + 1 {
-        return stands_in(leaves, starts, masks, from, columns[from]);
+    if chain_end(words.ties, from) == from + 1 {
+        return stands_in(row, from, words.columns[from]);
     }
-    several(
-        ties, distances, columns, from, leaves, starts, masks, marks, spare,
-    )
+    several(words, from, row, marks, spare)
 }

@@ -1,6 +1,6 @@
 -- Laws of arrays that are written: place by place, from the front, by a copy, through a part that is lent, one part after the other.
 use Prim.Native.Nat.{◌+◌, ◌-◌, ◌<◌, ◌≤◌, suc, zero, ℕ}
-use native.Mathlib.Nat.{le_of_suc-le-suc, not-suc-le-zero, suc-sub-suc}
+use native.Mathlib.Nat.{suc-sub-suc}
 use native.Mathlib.Numerals.{add-one}
 use native.Mathlib.Omega.{arith}
 use mathlib.Core.List.{List, [], ◌++◌, ◌∷◌, append_assoc, append-nil, map}
@@ -67,9 +67,6 @@ over_map_next f l room now i b h k e q =
     ∙ ap (set (over (take i (map f l)) room) i) (q ∙ sym (map_at f l i h))
     ∙ over_take (map f l) room i (omega (arith, length-map l f)) (omega arith)
 
-pub over_map_all : (f : ℕ → ℕ) (l room now : List ℕ) (i : ℕ) → length l ≤ i → now ≡ over (take i (map f l)) room → now ≡ over (map f l) room
-over_map_all f l room now i h e = e ∙ ap (λ x. over x room) (take_all i (map f l) (omega (arith, length-map l f)))
-
 -- what fits is written, and what does not is not
 pub fitted_over : (w room : List ℕ) → length w ≤ length room → fitted w room ≡ over w room
 fitted_over w room h = rw (le-leb (length w) (length room) h) refl
@@ -78,19 +75,6 @@ pub fitted_kept : (w room : List ℕ) → length room < length w → fitted w ro
 fitted_kept w room h = rw (lt-leb (length w) (length room) h) refl
 
 -- ---- one value everywhere
-
-module _ {A : Type 0} where
-  fill_suc : (n : ℕ) (v : A) (d : List A) → n < length d → set (replicate n v ++ drop n d) n v ≡ replicate (suc n) v ++ drop (suc n) d
-  fill_suc n v [] l = absurd (not-suc-le-zero l)
-  fill_suc zero v (x ∷ d) l = refl
-  fill_suc (suc n) v (x ∷ d) l = ap (λ (t : List A). v ∷ t) (fill_suc n v d (le_of_suc-le-suc l))
-
-  pub fill_more : (n : ℕ) (v : A) (d : List A) → n < length d → set (replicate n v ++ drop n d) n v ≡ replicate (n + 1) v ++ drop (n + 1) d
-  fill_more n v d l = rw add-one (fill_suc n v d l)
-
-  pub fill_all : (v : A) (d : List A) → replicate (length d) v ++ drop (length d) d ≡ replicate (length d) v
-  fill_all v [] = refl
-  fill_all v (x ∷ d) = ap (λ (t : List A). v ∷ t) (fill_all v d)
 
 pub drop_replicate : {A : Type 0} (m k : ℕ) (a : A) → drop m (replicate k a) ≡ replicate (k - m) a
 drop_replicate zero k a = let e : k ≡ k - 0 = omega arith in ap (λ n. replicate n a) e

@@ -1,16 +1,14 @@
 -- Laws of the test whether two byte strings are the same.
-use Prim.Native.Nat.{◌+◌, ◌<◌, ◌≤◌, suc, ℕ}
-use native.Mathlib.Numerals.{add-one}
+use Prim.Native.Nat.{ℕ}
 use native.Mathlib.Omega.{arith}
 use mathlib.Core.Bool.{false, true}
 use mathlib.Core.List.{List, [], ◌∷◌}
 use mathlib.Core.Path.{◌∙◌, ◌≡◌, ap, ap₂, refl, subst, sym}
 use lib.Dec.{eqb}
-use lib.ListN.{drop, drop_of_length-le, get_or, length}
-use lib.Seq.{drop-cons}
-use borrow.Author.Tests.{eq-eqb, eqb-true, ne_eqb}
+use lib.Pointwise.{pointwise}
+use borrow.Author.Tests.{eq-eqb, eqb-true}
 use Rattle.common.specs.Bytes.{same}
-use Rattle.common.proofs.Cases.{bool_case, both_false_right, both_left, both_right, both_true, false_not_true}
+use Rattle.common.proofs.Cases.{bool_case, both_left, both_right, both_true, false_not_true}
 
 pub same_true : (s t : List ℕ) → same s t ≡ true → s ≡ t
 unfolding same
@@ -45,23 +43,10 @@ same_sym v w =
     (λ u. sym t ∙ subst (λ x. same v x ≡ true) (sym (same_true w v u)) (same_refl v) ∙ sym u)
     (λ u. sym u))
 
-pub same_long : (s t : List ℕ) → (length s ≡ length t → ⊥) → same s t ≡ false
+-- std's `==` on byte strings
+pub pointwise_same : (s t : List ℕ) → pointwise eqb s t ≡ same s t
 unfolding same
-same_long [] [] h = absurd (h refl)
-same_long [] (b ∷ t) h = refl
-same_long (a ∷ s) [] h = refl
-same_long (a ∷ s) (b ∷ t) h = both_false_right (eqb a b) (same s t) (same_long s t (λ e. h (ap suc e)))
-
--- ---- from the left
-
-pub same_more : (s t : List ℕ) (i : ℕ) → i < length s → i < length t → get_or s i 0 ≡ get_or t i 0 → same (drop i s) (drop i t) ≡ same (drop (i + 1) s) (drop (i + 1) t)
-unfolding same
-same_more s t i h k e = rw (drop-cons s i 0 h, drop-cons t i 0 k, eq-eqb (get_or s i 0) (get_or t i 0) e, add-one)
-
-pub same_differs : (s t : List ℕ) (i : ℕ) → i < length s → i < length t → (get_or s i 0 ≡ get_or t i 0 → ⊥) → same (drop i s) (drop i t) ≡ false
-unfolding same
-same_differs s t i h k e = rw (drop-cons s i 0 h, drop-cons t i 0 k, ne_eqb (get_or s i 0) (get_or t i 0) e)
-
-pub same_end : (s t : List ℕ) (i : ℕ) → length s ≤ i → length t ≤ i → same (drop i s) (drop i t) ≡ true
-unfolding same
-same_end s t i h k = rw (drop_of_length-le s h, drop_of_length-le t k)
+pointwise_same [] [] = refl
+pointwise_same [] (b ∷ t) = refl
+pointwise_same (a ∷ s) [] = refl
+pointwise_same (a ∷ s) (b ∷ t) = bool_case (eqb a b) (λ e. rw e (pointwise_same s t)) (λ e. rw e refl)

@@ -3,10 +3,13 @@
 use Prim.Native.Nat.{ℕ, zero, suc, ◌+◌, ◌-◌, ◌/◌, ◌≤◌, ◌<◌, min}
 use native.Mathlib.Omega.{arith}
 use mathlib.Core.Path.{◌≡◌, refl, sym, ap, ◌∙◌, subst}
-use mathlib.Core.Bool.{true, false}
+use mathlib.Core.Bool.{true, false, not}
 use mathlib.Core.List.{List, [], ◌∷◌, ◌++◌, append_assoc}
 use lib.ListN.{length, take, drop, length-append, length-drop, length-take}
-use borrow.Author.Tests.{lt-ltb, le-ltb}
+use borrow.Author.Tests.{lt-ltb, le-ltb, eq-eqb, ne_eqb}
+use lib.Dec.{eqb}
+use Rattle.std.specs.Prelude.{Option, Some, None}
+use Rattle.std.specs.List.{prefix_len, position}
 use Rattle.common.specs.Bytes.{part, span}
 use Rattle.common.proofs.Cases.{split}
 use Rattle.common.proofs.Lists.{drop_past}
@@ -74,6 +77,23 @@ unfolding span
 open_span zero s t h = omega arith
 open_span (suc k) [] t h = omega arith
 open_span (suc k) (b ∷ s) t h = rw (lt-ltb 0 b h.0) (let i = open_span k s t h.1 in omega arith)
+
+-- a search for it finds where the run of bytes before it ends
+span_found : (s : List ℕ) → prefix_len (λ b. not (eqb b 0)) s ≡ span is_open s
+unfolding span
+span_found [] = refl
+span_found (b ∷ s) = split 0 b (λ h. rw (ne_eqb b 0 (omega arith), lt-ltb 0 b h) (omega (arith, span_found s))) (λ h. rw (eq-eqb b 0 (omega arith), le-ltb 0 b h) refl)
+
+-- the place of the first byte 0, if there is one
+abbrev pub FirstZero : List ℕ → Option ℕ → Type 0
+FirstZero s None = span is_open s ≡ length s
+FirstZero s (Some size) = (size ≡ span is_open s) × (size < length s)
+
+pub first_zero : (s : List ℕ) {r : Option ℕ} → r ≡ position (λ b. eqb b 0) s → FirstZero s r
+first_zero s e =
+    let n : ℕ = prefix_len (λ b. not (eqb b 0)) s in
+    let q = span_found s in
+    split n (length s) (λ h. rw (e, lt-ltb n (length s) h) (q, h)) (λ h. rw (e, le-ltb n (length s) h) (omega (arith, q, span_most is_open s)))
 
 -- ---- the entry after
 

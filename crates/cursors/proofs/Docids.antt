@@ -1,4 +1,5 @@
 -- The least docid: one docid at a time, and what it says of the groups (`next_is`).
+use Rattle.std.specs.List.{fold}
 use Prim.Native.Nat.{ℕ, ◌+◌, ◌≤◌, ◌<◌, min}
 use native.Mathlib.Omega.{arith}
 use native.Mathlib.Numerals.{add-one}
@@ -14,7 +15,6 @@ use Rattle.common.proofs.Lists.{get_d_inside}
 use Rattle.doclist.specs.Doclist.{Entry}
 use Rattle.cursors.specs.Groups.{Group, BeginsFrom, GroupsBegin, NextIs, last_key}
 use Rattle.cursors.specs.Arrays.{ListAt, Cursor, group_cursors, cursors, no_cursor, Hold, CursorsAre, least_of, next_of}
-use Rattle.cursors.specs.declared.Next.{Next}
 use Rattle.cursors.proofs.Each.{EachCursor, each_every}
 
 -- ---- one more docid
@@ -35,6 +35,11 @@ least_more ds i least h e =
     ap (λ (m : ℕ). min m (get_or ds i 0)) e
     ∙ sym (least_one (take i ds) (get_or ds i 0))
     ∙ ap least_of (sym (take-suc ds i 0 h) ∙ ap (λ (k : ℕ). take k ds) (sym (add-one i)))
+
+-- from the front on
+pub least_fold : (m : ℕ) (ds : List ℕ) → m ≤ last_key → fold (λ a d. min a d) m ds ≡ min m (least_of ds)
+least_fold m [] h = omega arith
+least_fold m (d ∷ ds) h = let i = least_fold (min m d) ds (omega arith) in omega (arith, i)
 
 -- ---- the docids of the cursors
 
@@ -150,10 +155,3 @@ next_is {docids = docids} {n = n} gs h = subst (λ (m : ℕ). NextIs gs (next_of
           begins gs (least cs) m,
           omega (arith, least_most (map head_of cs)),
         )
-
-pub next_told : {r : Next} (docids : List ℕ) (n m : ℕ) → take m docids ≡ take n docids → r ≡ next_of (least_of (take m docids))
-    → (r ≡ next_of (least_of (take n docids)))
-    × ((leaves bodies lasts masks follows : List ℕ) (gs : List Group) → CursorsAre leaves docids bodies lasts masks follows n gs → NextIs gs r)
-next_told {r} docids n m q e =
-    let k : r ≡ next_of (least_of (take n docids)) = e ∙ ap (λ (l : List ℕ). next_of (least_of l)) q in
-    (k, λ leaves bodies lasts masks follows gs h. subst (NextIs gs) (sym k) (next_is gs h))

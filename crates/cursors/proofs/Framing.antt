@@ -1,14 +1,13 @@
 -- What the calls leave alone, whatever the arrays hold: over cursors that are not on the docid (`frame_others`), over one that is
--- (`frame_hit`); and whether a docid is among some, one docid at a time.
-use Prim.Native.Nat.{ℕ, suc, ◌+◌, ◌≤◌, ◌<◌, min}
+-- (`frame_hit`); and a docid that is among some.
+use Prim.Native.Nat.{ℕ, ◌+◌, ◌≤◌, ◌<◌, min}
 use native.Mathlib.Omega.{arith}
-use native.Mathlib.Numerals.{add-one}
 use mathlib.Core.Path.{◌≡◌, refl, sym, ap, ◌∙◌, subst}
 use mathlib.Core.Bool.{Bool, true, false}
 use mathlib.Core.List.{List, [], ◌∷◌}
-use lib.ListN.{length, get_or, drop, set}
-use lib.Seq.{drop-cons, get_or-set_same, get_or-set_other}
-use borrow.Author.Tests.{eq-eqb, ne_eqb}
+use lib.ListN.{length, get_or, set}
+use lib.Seq.{get_or-set_same, get_or-set_other}
+use borrow.Author.Tests.{ne_eqb}
 use Rattle.common.specs.Pick.{pick, either}
 use Rattle.common.proofs.Cases.{false_not_true, same_or}
 use Rattle.common.proofs.Frames.{kept_all, kept_later, kept_set, kept_at}
@@ -89,12 +88,3 @@ among_least docid [] e = false_not_true e
 among_least docid (d ∷ ds) e =
     same_or d docid (λ q. omega arith)
     (λ q. let l = among_least docid ds (sym (ap (λ (b : Bool). either b (among docid ds)) (ne_eqb d docid q)) ∙ e) in omega arith)
-
-pub among_here : (docid : ℕ) (ds : List ℕ) (i : ℕ) → i < length ds → get_or ds i 0 ≡ docid → among docid (drop i ds) ≡ true
-among_here docid ds i h e =
-    ap (among docid) (drop-cons ds i 0 h) ∙ ap (λ (b : Bool). either b (among docid (drop (suc i) ds))) (eq-eqb (get_or ds i 0) docid e)
-
-pub among_next : (docid : ℕ) (ds : List ℕ) (i : ℕ) → i < length ds → (get_or ds i 0 ≡ docid → ⊥) → among docid (drop (i + 1) ds) ≡ among docid (drop i ds)
-among_next docid ds i h o =
-    ap (λ (k : ℕ). among docid (drop k ds)) (add-one i)
-    ∙ sym (ap (among docid) (drop-cons ds i 0 h) ∙ ap (λ (b : Bool). either b (among docid (drop (suc i) ds))) (ne_eqb (get_or ds i 0) docid o))

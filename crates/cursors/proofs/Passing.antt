@@ -1,6 +1,7 @@
 -- Passing over the entries before a docid, on content and in the arrays (`passed`): only one cursor stands before the docid, so
 -- only its list changes, the rows from the docid on stay as they are (`hits_later`), and those before have hits of one word
 -- only (`hits_of_one`).
+use Rattle.std.specs.Prelude.{Option}
 use Prim.Native.Nat.{ℕ, suc, ◌≤◌, ◌<◌}
 use native.Mathlib.Omega.{arith}
 use mathlib.Core.Path.{◌≡◌, refl, sym, ap, ap₂, ◌∙◌, subst}
@@ -16,7 +17,6 @@ use Rattle.meaning.specs.Index.{MaybeEntry, nothing, entry, entry_for, or_else}
 use Rattle.row.specs.Row.{Hit}
 use Rattle.cursors.specs.Groups.{Group, first_for, hit_of, hits_at, without_before, EveryList, BeginsFrom, From, NextIs, last_key}
 use Rattle.cursors.specs.Arrays.{StandsOn, ListAt, Cursor, group_cursors, cursors, no_cursor, CursorAt, Hold, CursorsAre, least_of, next_of, MinimaAre, Passed}
-use Rattle.cursors.specs.declared.Next.{Next}
 use Rattle.cursors.proofs.Each.{list_ordered}
 use Rattle.cursors.proofs.Docids.{next_is}
 use Rattle.cursors.proofs.Moving.{no_entry}
@@ -236,7 +236,7 @@ module _ {leaves docids bodies lasts masks follows : List ℕ} {n : ℕ} (i rest
               });
         }
 
-    pub passed : (mins : List ℕ) (r : Next) → MinimaAre (set docids i pd) n mins → r ≡ next_of (least_of (take n (set docids i pd)))
+    pub passed : (mins : List ℕ) (r : Option ℕ) → MinimaAre (set docids i pd) n mins → r ≡ next_of (least_of (take n (set docids i pd)))
         → Passed leaves (set docids i pd) (set bodies i pb) lasts masks follows n mins i rest gs r
     passed mins r m e =
         record {

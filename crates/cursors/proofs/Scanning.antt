@@ -1,5 +1,6 @@
 -- The scan over all cursors that takes a row: from the start (`scanned_start`) over a cursor that does not stand on the docid
 -- (`scanned_other`) or does (`scanned_hit`), or over a block without any (`scanned_block`), to the end (`scanned_end`).
+use Rattle.std.specs.Prelude.{Option}
 use Prim.Native.Nat.{ℕ, zero, suc, ◌+◌, ◌-◌, ◌*◌, ◌≤◌, ◌<◌, min}
 use native.Mathlib.Omega.{arith}
 use native.Mathlib.Numerals.{add-one}
@@ -11,15 +12,16 @@ use lib.Seq.{drop-cons, get_or-set_same, get_or-set_other}
 use borrow.Author.Tests.{eq-eqb, ne_eqb}
 use Rattle.common.specs.Pick.{pick}
 use Rattle.common.proofs.Cases.{split}
+use Rattle.common.specs.Frame.{KeptFrom}
 use Rattle.common.specs.Bounds.{max_index_bytes}
 use Rattle.doclist.specs.Docid.{docid_limit}
 use Rattle.doclist.specs.Doclist.{Entry}
 use Rattle.meaning.specs.Index.{MaybeEntry, nothing, entry}
 use Rattle.row.specs.Row.{Hit, BodyAt, RowIs}
 use Rattle.cursors.specs.Groups.{Group, hits_at, without, moved, BeginsFrom, From, NextIs, last_key}
-use Rattle.cursors.specs.Arrays.{StandsOn, ListAt, StandsFor, Cursor, cursors, no_cursor, CursorAt, Hold, CursorsAre, least_of, next_of, block_size, MinimaAre, RowTaken}
+use Rattle.cursors.specs.Arrays.{StandsOn, ListAt, StandsFor, Cursor, cursors, no_cursor, CursorAt, Hold, CursorsAre, least_of, next_of, block_size, blocks_of, MinimaAre, RowTaken}
+use Rattle.cursors.specs.Frames.{other_than, RowFrame}
 use Rattle.cursors.specs.Scanning.{front_entry, visible, hides, hidden_by, row_from, moved_cursor, over_other, taken_of, Scanned}
-use Rattle.cursors.specs.declared.Next.{Next}
 use Rattle.cursors.specs.declared.Scan.{Scan}
 use Rattle.cursors.proofs.Each.{ordered, every_each, each_at}
 use Rattle.cursors.proofs.Docids.{next_is}
@@ -289,7 +291,7 @@ module _ (leaves docids bodies lasts masks follows : List ℕ) (n : ℕ) (starts
 
 -- ---- every cursor is passed
 
-pub scanned_end : {leaves docids₀ bodies₀ docids bodies lasts masks follows : List ℕ} {n : ℕ} {mins₀ starts₀ matched₀ mins starts matched : List ℕ} {docid : ℕ} {gs : List Group} {scan : Scan} (next : Next)
+pub scanned_end : {leaves docids₀ bodies₀ docids bodies lasts masks follows : List ℕ} {n : ℕ} {mins₀ starts₀ matched₀ mins starts matched : List ℕ} {docid : ℕ} {gs : List Group} {scan : Scan} (next : Option ℕ)
     → ScanReady leaves docids₀ bodies₀ lasts masks follows n mins₀ starts₀ matched₀ docid gs
     → n ≤ length docids → n ≤ length bodies → next ≡ next_of (least_of (take n docids)) → MinimaAre docids n mins
     → Scanned leaves docids bodies lasts masks follows n starts matched docid gs scan n
@@ -329,3 +331,13 @@ scanned_end {leaves} {docids = docids} {bodies = bodies} {lasts} {masks} {follow
       next_is = subst (NextIs (moved docid gs)) (sym e) (next_is (moved docid gs) are);
       lone = λ q. p.one q;
     }
+
+-- ---- block by block
+
+-- the cursors before the place `i` are passed, and the least docid of each block is right if it was
+pub record BlocksPassed (docid n : ℕ) (leaves lasts masks follows docids₀ bodies₀ mins₀ starts₀ matched₀ docids bodies mins starts matched : List ℕ) (scan : Scan) (i : ℕ) : Type 0 where
+  pub least : MinimaAre docids₀ n mins₀ → MinimaAre docids n mins × (min scan.rest scan.moved ≡ least_of (take i docids)) × (scan.rest ≡ least_of (other_than docid (take i docids₀)))
+  pub row : (gs : List Group) → ScanReady leaves docids₀ bodies₀ lasts masks follows n mins₀ starts₀ matched₀ docid gs
+      → Scanned leaves docids bodies lasts masks follows n starts matched docid gs scan i
+  pub frame : RowFrame docid i docids₀ docids bodies₀ bodies starts₀ starts matched₀ matched scan.hits scan.taken scan.last
+  pub minima_kept : KeptFrom (blocks_of n) mins₀ mins

@@ -8,7 +8,7 @@
 --     follows   0 for the first cursor of a group, 1 for the others
 --
 -- The cursors stand in blocks: `mins` has the least docid of each block, so that a search need not look at every cursor.
-use Rattle.std.specs.Prelude.{ℕ, suc, ◌+◌, ◌*◌, ◌/◌, ◌≤◌, ◌<◌, min, ◌≡◌, Bool, length, get_or, take, drop, ltb, eqb}
+use Rattle.std.specs.Prelude.{ℕ, suc, ◌+◌, ◌*◌, ◌/◌, ◌≤◌, ◌<◌, min, ◌≡◌, Bool, length, get_or, take, drop, ltb, eqb, Option, Some, None}
 use mathlib.Core.List.{List, [], ◌∷◌, ◌++◌, Memᴰ}
 use Rattle.common.specs.Pick.{pick}
 use Rattle.common.specs.Bounds.{max_index_bytes}
@@ -16,8 +16,6 @@ use Rattle.doclist.specs.Docid.{docid_limit}
 use Rattle.doclist.specs.Doclist.{Entry, Columns, Entries, encode_from}
 use Rattle.row.specs.Row.{Hit, body_bytes, RowIs}
 use Rattle.cursors.specs.Groups.{Group, hits_at, moved, From, last_key, NextIs}
-use Rattle.cursors.specs.declared.Next.{Next}
-use Rattle.cursors.specs.declared.Next.TheVariants.{Docid, Last}
 use Rattle.cursors.specs.declared.Taken.{Taken}
 
 -- a body goes up to its first byte 0
@@ -96,8 +94,8 @@ abbrev pub least_of : List ℕ → ℕ
 least_of [] = last_key
 least_of (d ∷ ds) = min d (least_of ds)
 
-abbrev pub next_of : ℕ → Next
-next_of docid = pick (eqb docid last_key) Last (Docid docid)
+abbrev pub next_of : ℕ → Option ℕ
+next_of docid = pick (eqb docid last_key) None (Some docid)
 
 -- ---- blocks of cursors
 
@@ -133,7 +131,7 @@ pub record RowTaken (leaves docids bodies lasts masks follows : List ℕ) (n : �
 
 -- the cursor `i`, the only one that stands before `rest`, has moved there: the rows from there on are as they were, and those
 -- before had hits of this cursor's word only
-pub record Passed (leaves docids bodies lasts masks follows : List ℕ) (n : ℕ) (mins : List ℕ) (i rest : ℕ) (groups : List Group) (r : Next) : Type 0 where
+pub record Passed (leaves docids bodies lasts masks follows : List ℕ) (n : ℕ) (mins : List ℕ) (i rest : ℕ) (groups : List Group) (r : Option ℕ) : Type 0 where
   pub left : List Group
   pub cursors_are : CursorsAre leaves docids bodies lasts masks follows n left
   pub minima : MinimaAre docids n mins

@@ -1,13 +1,11 @@
 -- What the calls that move cursors promise, whatever the arrays hold (`Advances`, `Passes`): what is done where they hold cursors, when a call is
 -- turned away, what it leaves alone, and what holds of the answer. `MovingArrays` names the arrays that both calls change, `HitArrays` those of a row.
-use Rattle.std.specs.Prelude.{ℕ, ◌+◌, ◌*◌, ◌/◌, ◌≤◌, ◌<◌, min, ◌≡◌, Bool, false, List, [], ◌∷◌, length, get_or, take, set, eqb}
+use Rattle.std.specs.Prelude.{ℕ, ◌+◌, ◌*◌, ◌/◌, ◌≤◌, ◌<◌, min, ◌≡◌, Bool, false, List, [], ◌∷◌, length, get_or, take, set, eqb, Option, None}
 use Rattle.common.specs.Pick.{pick, either}
 use Rattle.common.specs.Frame.{KeptFrom}
 use Rattle.doclist.specs.Docid.{docid_limit}
 use Rattle.cursors.specs.Groups.{Group, From, last_key}
 use Rattle.cursors.specs.Arrays.{CursorRoom, CursorsAre, least_of, next_of, block_size, blocks_of, block_of, MinimaAre, RowTaken, Passed}
-use Rattle.cursors.specs.declared.Next.{Next}
-use Rattle.cursors.specs.declared.Next.TheVariants.{Last}
 use Rattle.cursors.specs.declared.Taken.{Taken}
 
 -- the arrays of cursors that move
@@ -32,7 +30,7 @@ pub record TakeRoom (n : ℕ) (docids bodies lasts masks follows mins starts mat
 
 -- no row is taken: the answer is that of no cursors, and every array is as it was
 pub record NotTaken (before after : MovingArrays) (room hits : HitArrays) (r : Taken) : Type 0 where
-  pub answer : r ≡ record { hits = 0; taken = 0; last = 0; rest = last_key; next = Last }
+  pub answer : r ≡ record { hits = 0; taken = 0; last = 0; rest = last_key; next = None }
   pub cursors_same : after ≡ before
   pub hits_same : hits ≡ room
 
@@ -89,8 +87,8 @@ pub record MoveRoom (n : ℕ) (docids bodies lasts mins : List ℕ) : Type 0 whe
   pub min_room : n ≤ block_size * length mins
 
 -- nothing is passed over
-pub record NotPassed (before after : MovingArrays) (r : Next) : Type 0 where
-  pub answer : r ≡ Last
+pub record NotPassed (before after : MovingArrays) (r : Option ℕ) : Type 0 where
+  pub answer : r ≡ None
   pub cursors_same : after ≡ before
 
 -- whether a docid is among some
@@ -99,12 +97,12 @@ among docid [] = false
 among docid (d ∷ ds) = either (eqb d docid) (among docid ds)
 
 -- the docid to go on with: `rest` where a block has it, else the least of all blocks
-abbrev pub next_from : ℕ → List ℕ → Next
+abbrev pub next_from : ℕ → List ℕ → Option ℕ
 next_from rest mins = next_of (pick (among rest mins) rest (least_of mins))
 
 -- the cursor `i` stands at `rest` or after it, where it stood if that is so already; its block's least docid is right, and nothing
 -- else has changed
-pub record PassFrame (n i rest : ℕ) (before after : MovingArrays) (r : Next) : Type 0 where
+pub record PassFrame (n i rest : ℕ) (before after : MovingArrays) (r : Option ℕ) : Type 0 where
   pub docid : ℕ
   pub body : ℕ
   pub reached : rest ≤ docid
@@ -115,7 +113,7 @@ pub record PassFrame (n i rest : ℕ) (before after : MovingArrays) (r : Next) :
   pub next_is : r ≡ next_from rest (take (blocks_of n) after.mins)
 
 -- what moving the cursor `i` of n past all entries before `rest` answers and leaves
-pub record Passes (i rest n : ℕ) (leaves lasts : List ℕ) (before after : MovingArrays) (r : Next) : Type 0 where
+pub record Passes (i rest n : ℕ) (leaves lasts : List ℕ) (before after : MovingArrays) (r : Option ℕ) : Type 0 where
   -- where the arrays hold cursors, and no other stands before `rest`
   pub content : (masks follows : List ℕ) (groups : List Group)
       → CursorsAre leaves before.docids before.bodies lasts masks follows n groups

@@ -2,14 +2,12 @@
 -- word of the index, newest leaf first, each without the entries that were read already, and the set of query words that
 -- the word matches. At a docid the newest list that has an entry decides for its word: it hides the older ones. A search
 -- goes from the least docid to the next, and each time the lists that begin with it lose that entry.
-use Rattle.std.specs.Prelude.{ℕ, ◌≤◌, ◌<◌, ◌≡◌, ltb, eqb}
+use Rattle.std.specs.Prelude.{ℕ, ◌≤◌, ◌<◌, ◌≡◌, ltb, eqb, Option, Some, None, unwrap_or}
 use mathlib.Core.List.{List, [], ◌∷◌, ◌++◌, Memᴰ}
 use Rattle.common.specs.Pick.{pick}
 use Rattle.doclist.specs.Doclist.{Entry}
 use Rattle.meaning.specs.Index.{MaybeEntry, nothing, entry, entry_for, or_else}
 use Rattle.row.specs.Row.{Hit}
-use Rattle.cursors.specs.declared.Next.{Next}
-use Rattle.cursors.specs.declared.Next.TheVariants.{Docid, Last}
 
 -- one word of the index: the query words that it matches (bit i for word number i), and its lists, newest leaf first
 pub record Group : Type 0 where
@@ -86,11 +84,10 @@ abbrev pub last_key : ℕ
 last_key = 0xffff_ffff_ffff_ffff
 
 -- the next docid is the least with which a list begins; where no list begins before the last docid, the row there is the last
-abbrev pub NextIs : List Group → Next → Type 0
-NextIs groups (Docid docid) = From docid groups × GroupsBegin docid groups × (docid < last_key)
-NextIs groups Last = From last_key groups
+abbrev pub NextIs : List Group → Option ℕ → Type 0
+NextIs groups (Some docid) = From docid groups × GroupsBegin docid groups × (docid < last_key)
+NextIs groups None = From last_key groups
 
 -- the docid of the row to go on with
-abbrev pub row_at : Next → ℕ
-row_at (Docid docid) = docid
-row_at Last = last_key
+abbrev pub row_at : Option ℕ → ℕ
+row_at next = unwrap_or next last_key

@@ -1,7 +1,7 @@
 -- How a scan over the cursors takes the row at a docid. Where no list begins before the docid, the entries for it are the first
 -- ones of their lists: a cursor on the docid gives a hit, unless an earlier one of its group did (`row_from`), and moves on.
 -- `Scanned` says what holds when the first `i` cursors are passed.
-use Rattle.std.specs.Prelude.{ℕ, ◌+◌, ◌≤◌, ◌<◌, min, ◌≡◌, Bool, true, false, List, [], ◌∷◌, ◌++◌, length, get_or, drop, ltb, eqb}
+use Rattle.std.specs.Prelude.{ℕ, ◌+◌, ◌≤◌, ◌<◌, min, ◌≡◌, Bool, true, false, List, [], ◌∷◌, ◌++◌, length, get_or, drop, ltb, eqb, Option}
 use Rattle.common.specs.Pick.{pick, both}
 use Rattle.common.specs.Bytes.{part}
 use Rattle.common.specs.Bounds.{max_index_bytes}
@@ -11,7 +11,6 @@ use Rattle.meaning.specs.Index.{MaybeEntry, nothing, entry}
 use Rattle.row.specs.Row.{Hit, RowIs}
 use Rattle.cursors.specs.Groups.{Group, last_key, without}
 use Rattle.cursors.specs.Arrays.{Cursor, cursors, no_cursor, CursorAt, least_of}
-use Rattle.cursors.specs.declared.Next.{Next}
 use Rattle.cursors.specs.declared.Scan.{Scan}
 use Rattle.cursors.specs.declared.Taken.{Taken}
 
@@ -65,7 +64,7 @@ abbrev pub joined : Scan → Scan → Scan
 joined scan block =
     record { hits = block.hits; hidden = block.hidden; taken = block.taken; last = block.last; rest = min scan.rest block.rest; moved = min scan.moved block.moved }
 
-abbrev pub taken_of : Scan → Next → Taken
+abbrev pub taken_of : Scan → Option ℕ → Taken
 taken_of scan next =
     record { hits = scan.hits; taken = scan.taken; last = scan.last; rest = scan.rest; next = next }
 

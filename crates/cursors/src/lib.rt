@@ -6,46 +6,37 @@
 //     docid (later its difference)   body: for each column [1, column] position + 2, ..   0
 #![tactic(auto)]
 
-ghost use Rattle.std.specs.Prelude.{◌≡◌, ◌↔◌, true, false, List, ℕ, ◌+◌, ◌*◌, ◌^◌, ◌≤◌, ◌<◌, min, length, take, ltb};
+ghost use Rattle.std.specs.Prelude.{◌≡◌, ◌↔◌, true, false, List, ℕ, ◌+◌, ◌*◌, ◌^◌, ◌≤◌, ◌<◌, ◌==◌, min, length, take, position, ltb};
 ghost use Rattle.common.specs.Pick.{pick, both};
-ghost use Rattle.common.specs.Bytes.{part, span};
+ghost use Rattle.common.specs.Bytes.{part};
 ghost use Rattle.doclist.specs.Doclist.{Entry};
 ghost use Rattle.cursors.specs.Groups.{Group, without_before, last_key, NextIs};
 ghost use Rattle.common.specs.Frame.{KeptFrom};
 ghost use Rattle.common.specs.Bounds.{max_index_bytes};
-ghost use Rattle.cursors.specs.Arrays.{is_open, StandsOn, ListAt, StandsFor, CursorsAre, least_of, next_of, block_size, blocks_of, MinimaAre};
-ghost use Rattle.cursors.specs.Frames.{Advances, other_than, RowFrame, among, next_from, Passes};
+ghost use Rattle.cursors.specs.Arrays.{StandsOn, ListAt, StandsFor, CursorsAre, least_of, next_of, block_size, blocks_of, MinimaAre};
+ghost use Rattle.cursors.specs.Frames.{Advances, other_than, RowFrame, next_from, Passes};
 ghost use Rattle.cursors.specs.Scanning.{begun, joined, over_other, over_hit, taken_of, Fits, BlockTaken, Scanned};
 ghost use Rattle.cursors.specs.declared.Scan.{Scan};
 
 use doclist::keys::MAX_KEY;
 use varint::Varint;
 
-// The body of a cursor that has no entry left; it stands on the last docid then.
+// The body of a cursor that has no entry left; it stands on the last docid then. Not an Option: the arrays that are lent hold numbers.
 const NO_BODY: u16 = 0;
-
-// All leaves together have at most 65,536 bytes, so this is the last place in them.
-const LAST_PLACE: usize = 65535;
 
 // The cursors stand in blocks of so many.
 const BLOCK: usize = 16;
 
-// The docid to go on with, before the last one; or the last, where there may be no entry.
-#[derive(Clone, Copy)]
-pub enum Next {
-    Docid(u64),
-    Last,
-}
-
 // What taking a row gives: how many hits it has; how many cursors stood on its docid, hidden ones too, and the last of them;
-// the least docid of the others, the last docid if there are none; where to go on.
+// the least docid of the others, the last docid if there are none; the docid to go on with, none if that is the last, where
+// there may be no entry.
 #[derive(Clone, Copy)]
 pub struct Taken {
     pub hits: usize,
     pub taken: usize,
     pub last: usize,
     pub rest: u64,
-    pub next: Next,
+    pub next: Option<u64>,
 }
 
 // A scan for the row at a docid, as far as it has come: how many hits there are; whether the last cursor hides the next of
@@ -68,18 +59,11 @@ struct Place {
     body: u16,
 }
 
-// How many bytes stand before the first 0.
-fn open_bytes(s: &[u8]) -> usize
-    ensures { result ≡ span is_open s.now }
+// Where the first byte 0 stands.
+fn first_zero(s: &[u8]) -> Option<usize>
+    ensures { result ≡ position (λ b. b == 0) s.now }
 {
-    let mut i: usize = 0;
-    while i < s.len() {
-        if s[i] == 0 {
-            return i;
-        }
-        i += 1;
-    }
-    i
+    s.iter().position(|b| *b == 0)
 }
 
 // Where the cursor stands after the entry whose body is at `body`, in a list whose last byte is at `last`.
@@ -87,91 +71,62 @@ fn entry_after(leaves: &[u8], docid: u64, body: u16, last: u16) -> Place
     ensures content { (e : Entry) (rest : List Entry) → length leaves.now ≤ max_index_bytes → StandsOn leaves.now e rest docid body last → ListAt leaves.now rest result.docid result.body last }
     ensures onward { (docid < last_key → docid < result.docid) × (docid ≤ result.docid) }
 {
-    let from = body as usize;
-    let to = last as usize;
+    let from = usize::from(body);
+    let to = usize::from(last);
     let end = Place {
         docid: MAX_KEY,
         body: NO_BODY,
     };
-    if to < from {
+    let Some(entry) = leaves.get(from..to) else {
         return end;
-    }
-    if leaves.len() < to {
+    };
+    let Some(size) = first_zero(entry) else {
         return end;
-    }
-    let close = from + open_bytes(&leaves[from..to]);
-    if close == to {
-        return end;
-    }
-    let Varint::Value { value, next } = varint::read(leaves, close + 1) else {
+    };
+    let Varint::Value { value, next } = varint::read(leaves, from + size + 1) else {
         return end;
     };
     if value == 0 {
         return end;
     }
-    if MAX_KEY - docid < value {
+    let Some(docid) = docid.checked_add(value) else {
         return end;
-    }
-    if LAST_PLACE < next {
+    };
+    let Ok(body) = u16::try_from(next) else {
         return end;
-    }
-    Place {
-        docid: docid + value,
-        body: next as u16,
-    }
-}
-
-// The lesser of two docids.
-fn lesser(a: u64, b: u64) -> u64
-    ensures { result ≡ min a b }
-{
-    if a < b {
-        return a;
-    }
-    b
+    };
+    Place { docid, body }
 }
 
 // The docid to go on with, if this is the least of all cursors.
-fn next_of(docid: u64) -> Next
+fn next_of(docid: u64) -> Option<u64>
     ensures { result ≡ next_of docid }
 {
-    if docid == MAX_KEY {
-        return Next::Last;
-    }
-    Next::Docid(docid)
+    if docid == MAX_KEY { None } else { Some(docid) }
 }
 
 fn least_of(docids: &[u64]) -> u64
     ensures { result ≡ least_of docids.now }
 {
-    let mut least = MAX_KEY;
-    let mut i: usize = 0;
-    while i < docids.len() {
-        least = lesser(least, docids[i]);
-        i += 1;
-    }
-    least
+    docids
+        .iter()
+        .fold(MAX_KEY, |least, docid| least.min(*docid))
 }
 
 // The least docid of the first `n` cursors.
-pub fn least(docids: &[u64], n: usize) -> Next
+pub fn least(docids: &[u64], n: usize) -> Option<u64>
     ensures reader { result ≡ next_of (least_of (take n docids.now)) }
     ensures content { (leaves bodies lasts masks follows : List ℕ) (groups : List Group) → CursorsAre leaves docids.now bodies lasts masks follows n groups → NextIs groups result }
 {
-    if docids.len() < n {
-        return next_of(least_of(docids));
-    }
-    next_of(least_of(&docids[0..n]))
+    let end = n.min(docids.len());
+    next_of(least_of(&docids[..end]))
 }
 
 // Whether a cursor on a docid is hidden: an earlier one of its group stands on it too.
 fn is_hidden(hidden: bool, follows: u8) -> bool
     ensures { result ≡ both hidden (ltb 0 follows) }
 {
-    if hidden {
-        return 0 < follows;
-    }
-    false
+    hidden && 0 < follows
 }
 
 // How many hits there are after one more that may be hidden.
@@ -179,79 +134,69 @@ fn hits_after(hits: usize, hidden: bool) -> usize
     requires { hits < 2 ^ 63 }
     ensures { result ≡ pick hidden hits (hits + 1) }
 {
-    if hidden {
-        return hits;
-    }
-    hits + 1
+    hits + usize::from(!hidden)
 }
 
-// Over one more cursor, or a block, that does not stand on the docid.
-fn over_other(scan: Scan, hidden: bool, docid: u64) -> Scan
-    ensures { result ≡ over_other scan hidden docid }
-{
-    Scan {
-        hits: scan.hits,
-        hidden,
-        taken: scan.taken,
-        last: scan.last,
-        rest: lesser(scan.rest, docid),
-        moved: scan.moved,
+impl Scan {
+    // Over one more cursor, or a block, that does not stand on the docid.
+    fn over_other(self, hidden: bool, docid: u64) -> Scan
+        ensures { result ≡ over_other self hidden docid }
+    {
+        Scan {
+            hidden,
+            rest: self.rest.min(docid),
+            ..self
+        }
     }
-}
 
-// Over the cursor `i`, which stood on the docid and moved to another.
-fn over_hit(scan: Scan, covered: bool, i: usize, docid: u64) -> Scan
-    requires { (scan.hits < 2 ^ 63) × (scan.taken < 2 ^ 63) }
-    ensures { result ≡ over_hit scan covered i docid }
-{
-    Scan {
-        hits: hits_after(scan.hits, covered),
-        hidden: true,
-        taken: scan.taken + 1,
-        last: i,
-        rest: scan.rest,
-        moved: lesser(scan.moved, docid),
+    // Over the cursor `i`, which stood on the docid and moved to another.
+    fn over_hit(self, covered: bool, i: usize, docid: u64) -> Scan
+        requires { (self.hits < 2 ^ 63) × (self.taken < 2 ^ 63) }
+        ensures { result ≡ over_hit self covered i docid }
+    {
+        Scan {
+            hits: hits_after(self.hits, covered),
+            hidden: true,
+            taken: self.taken + 1,
+            last: i,
+            moved: self.moved.min(docid),
+            ..self
+        }
     }
-}
 
-// The scan where a block begins: its docids are met anew.
-fn begin_block(scan: Scan) -> Scan
-    ensures { result ≡ begun scan }
-{
-    Scan {
-        hits: scan.hits,
-        hidden: scan.hidden,
-        taken: scan.taken,
-        last: scan.last,
-        rest: MAX_KEY,
-        moved: MAX_KEY,
+    // The scan where a block begins: its docids are met anew.
+    fn begin_block(self) -> Scan
+        ensures { result ≡ begun self }
+    {
+        Scan {
+            rest: MAX_KEY,
+            moved: MAX_KEY,
+            ..self
+        }
     }
-}
 
-// The scan before a block and the one over it.
-fn join(scan: Scan, block: Scan) -> Scan
-    ensures { result ≡ joined scan block }
-{
-    Scan {
-        hits: block.hits,
-        hidden: block.hidden,
-        taken: block.taken,
-        last: block.last,
-        rest: lesser(scan.rest, block.rest),
-        moved: lesser(scan.moved, block.moved),
+    // The scan before a block and the one over it.
+    fn join(self, block: Scan) -> Scan
+        ensures { result ≡ joined self block }
+    {
+        Scan {
+            rest: self.rest.min(block.rest),
+            moved: self.moved.min(block.moved),
+            ..block
+        }
     }
-}
 
-// What the whole scan gives.
-fn end_scan(scan: Scan, next: Next) -> Taken
-    ensures { result ≡ taken_of scan next }
-{
-    Taken {
-        hits: scan.hits,
-        taken: scan.taken,
-        last: scan.last,
-        rest: scan.rest,
-        next,
+    // What the whole scan gives.
+    fn end_scan(self, next: Option<u64>) -> Taken
+        ensures { result ≡ taken_of self next }
+    {
+        Taken {
+            hits: self.hits,
+            taken: self.taken,
+            last: self.last,
+            rest: self.rest,
+            next,
+        }
     }
 }
 
@@ -259,13 +204,7 @@ fn end_scan(scan: Scan, next: Next) -> Taken
 fn is_elsewhere(at: u64, body: u16, docid: u64) -> bool
     ensures { (result ≡ false) ↔ StandsFor docid at body }
 {
-    if at != docid {
-        return true;
-    }
-    if at != MAX_KEY {
-        return false;
-    }
-    body == NO_BODY
+    at != docid || (docid == MAX_KEY && body == NO_BODY)
 }
 
 // Takes what the cursors from `from` up to `to` give to the row at a docid; those on it move on.
@@ -288,15 +227,13 @@ fn take_block(
     ensures row { (n : ℕ) (groups : List Group) (earlier : Scan) → to ≤ n → Scanned leaves.now docids.old bodies.old lasts.now masks.now follows.now n starts.old matched.old docid groups (joined earlier (begun before)) from → Scanned leaves.now docids.new bodies.new lasts.now masks.now follows.now n starts.new matched.new docid groups (joined earlier result) to }
     ensures frame { (docids₀ bodies₀ starts₀ matched₀ : List ℕ) → RowFrame docid from docids₀ docids.old bodies₀ bodies.old starts₀ starts.old matched₀ matched.old before.hits before.taken before.last → RowFrame docid to docids₀ docids.new bodies₀ bodies.new starts₀ starts.new matched₀ matched.new result.hits result.taken result.last }
 {
-    let mut scan = begin_block(before);
-    let mut i = from;
-    while i < to {
+    let mut scan = before.begin_block();
+    for i in from..to {
         let at = docids[i];
         let body = bodies[i];
         let covered = is_hidden(scan.hidden, follows[i]);
         if is_elsewhere(at, body, docid) {
-            scan = over_other(scan, covered, at);
-            i += 1;
+            scan = scan.over_other(covered, at);
             continue;
         }
         let hits = scan.hits;
@@ -305,8 +242,7 @@ fn take_block(
         let place = entry_after(leaves, docid, body, lasts[i]);
         docids[i] = place.docid;
         bodies[i] = place.body;
-        scan = over_hit(scan, covered, i, place.docid);
-        i += 1;
+        scan = scan.over_hit(covered, i, place.docid);
     }
     scan
 }
@@ -316,21 +252,14 @@ fn block_end(from: usize, n: usize) -> usize
     requires { from ≤ n }
     ensures { result ≡ min n (from + block_size) }
 {
-    if n - from < BLOCK {
-        return n;
-    }
-    from + BLOCK
+    from + BLOCK.min(n - from)
 }
 
 // How many blocks `n` cursors are in.
 fn blocks_of(n: usize) -> usize
     ensures { result ≡ blocks_of n }
 {
-    let full = n / BLOCK;
-    if full * BLOCK < n {
-        return full + 1;
-    }
-    full
+    n.div_ceil(BLOCK)
 }
 
 // The least docid of each block.
@@ -339,19 +268,13 @@ pub fn minima(docids: &[u64], n: usize, mins: &mut [u64])
     ensures otherwise { ((n ≤ length docids.now) × (n ≤ block_size * length mins.old) → ⊥) → mins.new ≡ mins.old }
     ensures frame { KeptFrom (blocks_of n) mins.old mins.new }
 {
-    if docids.len() < n {
+    let blocks = blocks_of(n);
+    if docids.len() < n || mins.len() < blocks {
         return;
     }
-    if mins.len() < blocks_of(n) {
-        return;
-    }
-    let mut start: usize = 0;
-    let mut b: usize = 0;
-    while start < n {
-        let end = block_end(start, n);
-        mins[b] = least_of(&docids[start..end]);
-        start = end;
-        b += 1;
+    for b in 0..blocks {
+        let start = b * BLOCK;
+        mins[b] = least_of(&docids[start..block_end(start, n)]);
     }
 }
 
@@ -359,51 +282,21 @@ pub fn minima(docids: &[u64], n: usize, mins: &mut [u64])
 fn can_move(n: usize, docids: usize, bodies: usize, lasts: usize, mins: usize) -> bool
     ensures { (result ≡ true) ↔ ((n ≤ docids) × (n ≤ bodies) × (n ≤ lasts) × (n ≤ block_size * mins)) }
 {
-    if docids < n {
-        return false;
-    }
-    if bodies < n {
-        return false;
-    }
-    if lasts < n {
-        return false;
-    }
-    if mins < blocks_of(n) {
-        return false;
-    }
-    true
+    n <= docids && n <= bodies && n <= lasts && blocks_of(n) <= mins
 }
 
 // Whether the other arrays that a row is taken with have room for `n` cursors.
 fn has_room(n: usize, masks: usize, follows: usize, starts: usize, matched: usize) -> bool
     ensures { (result ≡ true) ↔ ((n ≤ masks) × (n ≤ follows) × (n ≤ starts) × (n ≤ matched)) }
 {
-    if masks < n {
-        return false;
-    }
-    if follows < n {
-        return false;
-    }
-    if starts < n {
-        return false;
-    }
-    if matched < n {
-        return false;
-    }
-    true
+    n <= masks && n <= follows && n <= starts && n <= matched
 }
 
 // Whether a block with this least docid gives nothing to the row at `docid` and hides nothing in it.
 fn gives_nothing(hidden: bool, least: u64, docid: u64) -> bool
     ensures { (result ≡ true) → ((hidden ≡ false) × (least ≡ docid → ⊥)) }
 {
-    if hidden {
-        return false;
-    }
-    if least == docid {
-        return false;
-    }
-    true
+    !hidden && least != docid
 }
 
 // Takes the row at a docid before which no cursor stands: puts where the bodies of its hits begin into `starts`, and which
@@ -431,33 +324,28 @@ pub fn advance(
         rest: MAX_KEY,
         moved: MAX_KEY,
     };
-    let none = end_scan(scan, Next::Last);
+    let none = scan.end_scan(None);
     if !can_move(n, docids.len(), bodies.len(), lasts.len(), mins.len()) {
         return none;
     }
     if !has_room(n, masks.len(), follows.len(), starts.len(), matched.len()) {
         return none;
     }
-    let mut from: usize = 0;
-    let mut b: usize = 0;
-    while from < n {
+    for b in 0..blocks_of(n) {
+        let from = b * BLOCK;
         let to = block_end(from, n);
         let least = mins[b];
         if gives_nothing(scan.hidden, least, docid) {
-            scan = over_other(scan, false, least);
-            from = to;
-            b += 1;
+            scan = scan.over_other(false, least);
             continue;
         }
         let block = take_block(
             docid, leaves, docids, bodies, lasts, masks, follows, from, to, starts, matched, scan,
         );
-        mins[b] = lesser(block.rest, block.moved);
-        scan = join(scan, block);
-        from = to;
-        b += 1;
+        mins[b] = block.rest.min(block.moved);
+        scan = scan.join(block);
     }
-    end_scan(scan, next_of(lesser(scan.rest, scan.moved)))
+    scan.end_scan(next_of(scan.rest.min(scan.moved)))
 }
 
 // Where the cursor stands after all entries before `rest`.
@@ -473,31 +361,17 @@ fn place_from(leaves: &[u8], docid: u64, body: u16, last: u16, rest: u64) -> Pla
     place
 }
 
-// Whether one of the docids is `docid`.
-fn has_docid(docids: &[u64], docid: u64) -> bool
-    ensures { result ≡ among docid docids.now }
-{
-    let mut i: usize = 0;
-    while i < docids.len() {
-        if docids[i] == docid {
-            return true;
-        }
-        i += 1;
-    }
-    false
-}
-
 // The least docid of all blocks, none of which is before `rest`. Mostly it is `rest`, which is found sooner.
-fn least_block(mins: &[u64], n: usize, rest: u64) -> Next
+fn least_block(mins: &[u64], n: usize, rest: u64) -> Option<u64>
     requires { n ≤ block_size * length mins.now }
     ensures reader { result ≡ next_from rest (take (blocks_of n) mins.now) }
     ensures content { (docids : List ℕ) → n ≤ length docids → MinimaAre docids n mins.now → rest ≤ least_of (take n docids) → result ≡ next_of (least_of (take n docids)) }
 {
-    let end = blocks_of(n);
-    if has_docid(&mins[0..end], rest) {
+    let blocks = &mins[..blocks_of(n)];
+    if blocks.contains(&rest) {
         return next_of(rest);
     }
-    next_of(least_of(&mins[0..end]))
+    next_of(least_of(blocks))
 }
 
 // Moves the cursor `i`, the only one that stands before `rest`, past all entries before it.
@@ -510,15 +384,11 @@ pub fn pass(
     lasts: &[u16],
     n: usize,
     mins: &mut [u64],
-) -> Next
+) -> Option<u64>
     ensures { Passes i rest n leaves.now lasts.now (record { docids = docids.entry.now; bodies = bodies.old; mins = mins.old }) (record { docids = docids.exit.now; bodies = bodies.new; mins = mins.new }) result }
 {
-    let none = Next::Last;
-    if n <= i {
-        return none;
-    }
-    if !can_move(n, docids.len(), bodies.len(), lasts.len(), mins.len()) {
-        return none;
+    if n <= i || !can_move(n, docids.len(), bodies.len(), lasts.len(), mins.len()) {
+        return None;
     }
     let place = place_from(leaves, docids[i], bodies[i], lasts[i], rest);
     docids[i] = place.docid;

@@ -3,20 +3,19 @@ use Prim.Native.Nat.{ℕ, zero, suc, ◌+◌, ◌-◌, ◌≤◌, ◌<◌}
 use native.Mathlib.Omega.{arith}
 use native.Mathlib.Numerals.{add-one}
 use mathlib.Core.Path.{◌≡◌, refl, sym, ap, ap₂, subst, ◌∙◌}
-use mathlib.Core.Logic.{◌↔◌, inl, inr, ⊎_elim}
+use mathlib.Core.Logic.{◌↔◌, ⊎_elim}
 use mathlib.Core.Bool.{Bool, true, false}
 use mathlib.Core.List.Permᴰ
 use mathlib.Core.List.{List, [], ◌∷◌, ◌++◌, append_assoc, Memᴰ}
 use lib.ListN.{length, get_or, take, drop, replicate, length-append, length-replicate, length-drop, take-append-drop, get_or-append}
 use lib.Seq.{length-take-le, get_or-take, get_or-drop, take-append-le, drop-append-le, drop-append-add, take_at}
-use lib.Dec.{ltb, eqb}
-use borrow.Author.Tests.{ltb-true, lt-ltb, eqb-true, eq-eqb}
 use Rattle.common.specs.Bounds.{max_leaves}
 use Rattle.common.specs.Bytes.{part}
 use Rattle.common.proofs.Cases.{false_not_true, split, same_or}
 use Rattle.common.proofs.Members.{Each, member_at, member_each, at_member, rise_at, rise_apart}
 use Rattle.directory.specs.Age.{Pair, pairs, Newer, pair_at, Distinct, Dated}
 use Rattle.directory.specs.Order.{up_to, Sorted, OrderIs, places_of, PlacesAre, NewerAmong, Ordered}
+use Rattle.std.specs.Prelude.{Some, None}
 use Rattle.directory.proofs.Permutations.{perm_length, perm_member}
 use Rattle.directory.proofs.Ages.{newer_never, newer_trans, newer_or}
 use Rattle.directory.proofs.Sorting.{NewerAt, upto_more, upto_below, sorted_rise, sorted_more}
@@ -35,24 +34,14 @@ pair_at_lem (l ∷ ls) [] h k = absurd (omega arith)
 pair_at_lem (l ∷ ls) (i ∷ is) h zero = refl
 pair_at_lem (l ∷ ls) (i ∷ is) h (suc k) = pair_at_lem ls is (omega arith) k
 
-module _ (l i m j : ℕ) where
-  pub newer_by_index : l ≡ m → (ltb j i ≡ true) ↔ Newer (record { level = l; index = i }) (record { level = m; index = j })
-  newer_by_index e =
-      (λ t. inr (e, ltb-true j i t), λ n. ⊎_elim (λ (o : l < m). absurd (omega arith)) (λ (o : (l ≡ m) × (j < i)). lt-ltb j i o.1) n)
-
-  pub newer_by_level : (l ≡ m → ⊥) → (ltb l m ≡ true) ↔ Newer (record { level = l; index = i }) (record { level = m; index = j })
-  newer_by_level d =
-      (λ t. inl (ltb-true l m t), λ n. ⊎_elim (λ (o : l < m). lt-ltb l m o) (λ (o : (l ≡ m) × (j < i)). absurd (d o.0)) n)
-
 module _ (ls is : List ℕ) (h : length is ≡ length ls) (i j : ℕ) where
-  pub level_same : pair_at (pairs ls is) i ≡ pair_at (pairs ls is) j → get_or ls i 0 ≡ get_or ls j 0
-  level_same e = ap (λ (p : Pair). p.level) (pair_at_lem ls is h i ∙ e ∙ sym (pair_at_lem ls is h j))
+  pub pair_same : (get_or ls i 0 ≡ get_or ls j 0) × (get_or is i 0 ≡ get_or is j 0) → pair_at (pairs ls is) i ≡ pair_at (pairs ls is) j
+  pair_same e = sym (pair_at_lem ls is h i) ∙ ap₂ (λ (a b : ℕ). record { level = a; index = b }) e.0 e.1 ∙ pair_at_lem ls is h j
 
-  pub pair_same : get_or ls i 0 ≡ get_or ls j 0 → (eqb (get_or is i 0) (get_or is j 0) ≡ true) ↔ (pair_at (pairs ls is) i ≡ pair_at (pairs ls is) j)
-  pair_same e = (
-    λ t. sym (pair_at_lem ls is h i) ∙ ap₂ (λ (a b : ℕ). record { level = a; index = b }) e (eqb-true (get_or is i 0) (get_or is j 0) t) ∙ pair_at_lem ls is h j,
-    λ q. eq-eqb (get_or is i 0) (get_or is j 0) (ap (λ (p : Pair). p.index) (pair_at_lem ls is h i ∙ q ∙ sym (pair_at_lem ls is h j))),
-  )
+  pub same_pair : pair_at (pairs ls is) i ≡ pair_at (pairs ls is) j → (get_or ls i 0 ≡ get_or ls j 0) × (get_or is i 0 ≡ get_or is j 0)
+  same_pair e =
+      let k = pair_at_lem ls is h i ∙ e ∙ sym (pair_at_lem ls is h j) in
+      (ap (λ (p : Pair). p.level) k, ap (λ (p : Pair). p.index) k)
 
 -- ---- places
 
@@ -201,17 +190,14 @@ sorted_distinct {ps} {order} s i j l h e =
     (perm_member s.each_once (upto_member (length ps) i (omega arith))) (perm_member s.each_once (upto_member (length ps) j h)))
 
 module _ {ls is : List ℕ} {count : ℕ} where
-  pub ordered_none : ((count ≤ max_leaves) × Dated ls is count → ⊥) → Ordered ls is count (record { ok = false; places = places_of [] })
-  ordered_none never = record { exact = (λ e. false_not_true e, λ d. absurd (never d)); order = []; are = refl; accepted = λ e. false_not_true e; refused = λ e. refl }
+  pub ordered_none : ((count ≤ max_leaves) × Dated ls is count → ⊥) → Ordered ls is count None
+  ordered_none never = record { exact = (λ e. false_not_true e, λ d. absurd (never d)); placed = tt }
 
-  pub ordered_all : {places : List ℕ} → count ≤ max_leaves → length ls ≡ count → length is ≡ count → PlacesAre ls is count places → Ordered ls is count (record { ok = true; places = places })
+  pub ordered_all : {places : List ℕ} → count ≤ max_leaves → length ls ≡ count → length is ≡ count → PlacesAre ls is count places → Ordered ls is count (Some places)
   ordered_all h l i p =
       let n : length (pairs ls is) ≡ count = pairs_length ls is (i ∙ sym l) ∙ l in
       let s : OrderIs (pairs ls is) p.order = subst (λ k. Sorted (pairs ls is) k p.order) (sym n) p.sorted in
       record {
         exact = (λ e. (h, record { levels_each = l; indexes_each = i; distinct = sorted_distinct s }), λ d. refl);
-        order = p.order;
-        are = p.are;
-        accepted = λ e. s;
-        refused = λ e. false_not_true (sym e);
+        placed = record { order = p.order; are = p.are; accepted = s };
       }

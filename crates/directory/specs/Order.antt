@@ -1,9 +1,8 @@
 -- The order by age, as the code has it: the numbers of what is lent, newest first.
-use Rattle.std.specs.Prelude.{ℕ, zero, suc, ◌-◌, ◌≤◌, ◌<◌, ◌≡◌, ◌↔◌, true, false, length, get_or, replicate}
+use Rattle.std.specs.Prelude.{ℕ, zero, suc, ◌-◌, ◌≤◌, ◌<◌, ◌≡◌, ◌↔◌, length, get_or, replicate, Option, IsSome, IfSome}
 use mathlib.Core.List.{List, [], ◌∷◌, ◌++◌, map, Permᴰ}
 use Rattle.common.specs.Bounds.{max_leaves}
 use Rattle.directory.specs.Age.{Pair, pairs, Newer, pair_at, ByAge, Dated}
-use Rattle.directory.specs.declared.Order.{Order}
 
 -- the numbers from 0 up to `n`, which is left out
 abbrev pub up_to : ℕ → List ℕ
@@ -43,11 +42,13 @@ pub record NewerAmong (ps : List Pair) (k : ℕ) (places : List ℕ) (r : ℕ) :
 
 -- ---- the promise
 
--- there is an order exactly where as many pairs as leaves are lent, not too many, and no two the same; its numbers are in the places, then
--- zeros, and where there is none only zeros
-pub record Ordered (levels indexes : List ℕ) (count : ℕ) (r : Order) : Type 0 where
-  pub exact : (r.ok ≡ true) ↔ ((count ≤ max_leaves) × Dated levels indexes count)
+-- places where numbers stand that are the order of the pairs, then zeros
+pub record OrderPlaced (levels indexes places : List ℕ) : Type 0 where
   pub order : List ℕ
-  pub are : r.places ≡ places_of order
-  pub accepted : r.ok ≡ true → OrderIs (pairs levels indexes) order
-  pub refused : r.ok ≡ false → order ≡ []
+  pub are : places ≡ places_of order
+  pub accepted : OrderIs (pairs levels indexes) order
+
+-- there is an order exactly where as many pairs as leaves are lent, not too many, and no two the same; its numbers are in the places
+pub record Ordered (levels indexes : List ℕ) (count : ℕ) (r : Option (List ℕ)) : Type 0 where
+  pub exact : IsSome r ↔ ((count ≤ max_leaves) × Dated levels indexes count)
+  pub placed : IfSome r (OrderPlaced levels indexes)

@@ -1,20 +1,21 @@
 -- A step keeps the bounds of the state, and how checking goes on: a number at a time.
 use Prim.Native.Nat.{ℕ, zero, suc, ◌+◌, ◌-◌, ◌≤◌, ◌<◌}
 use native.Mathlib.Omega.{arith}
-use mathlib.Core.Path.{◌≡◌, refl, ◌∙◌}
+use mathlib.Core.Path.{◌≡◌, refl, subst, ◌∙◌}
 use mathlib.Core.List.{List}
 use lib.ListN.{length}
 use lib.Dec.{ltb, leb, eqb}
 use borrow.Author.Tests.{lt-ltb, le-ltb, ltb-true}
-use Rattle.common.proofs.Cases.{pick_case}
+use Rattle.common.proofs.Cases.{bool_case, pick_case}
 use Rattle.varint.specs.Varint.{varint_limit, read_at}
 use Rattle.varint.specs.declared.Varint.TheVariants.{Value, Refused}
 use Rattle.varint.proofs.Laws.{stored_at, next_after}
 use Rattle.doclist.specs.Docid.{docid_limit}
 use Rattle.doclist.specs.Doclist.{position_limit}
-use Rattle.doclist.specs.Checking.{Sane, position_state, check_step, ended_of, check_from, check_of}
-use Rattle.doclist.specs.Spots.{spot_of, Checking}
-use Rattle.doclist.specs.declared.Spot.TheVariants as spot
+use Rattle.doclist.specs.Checking.{Sane, position_of, position_state, later_docid_of, next_docid_of, check_step, ended_of, check_from, check_of}
+use Rattle.doclist.specs.Spots.{spot, spot_of, Checking}
+use Rattle.std.specs.Prelude.{Option, Some, None}
+use Rattle.doclist.specs.declared.Spot.{Spot}
 use Rattle.doclist.specs.declared.State.{State}
 use Rattle.doclist.specs.declared.State.TheVariants.{Start, Between, Open, Name, Named, Broken}
 use Rattle.doclist.specs.declared.ListCheck.TheVariants as list-check
@@ -40,16 +41,62 @@ sane_step count (Name d c) v s h =
 sane_step count (Named d c) v s h = position_sane d c 0 0 v s
 sane_step count Broken v s h = tt
 
--- a position past the limit is refused, whatever may come
-pub position_large : (d c b l v : ℕ) → position_limit ≤ b + (v - 2) → position_state d c b l v ≡ Broken
-position_large d c b l v h =
-    pick_case (λ q. q ≡ Broken) (ltb v 2) _ _ (λ _. refl) λ _.
-    pick_case (λ q. q ≡ Broken) (ltb (b + (v - 2)) l) _ _ (λ _. refl) λ _. simp (le-ltb (b + (v - 2)) position_limit h)
+-- ---- a position
 
-pub spot_large : (c b l v n : ℕ) → position_limit ≤ b + (v - 2) → spot_of c b l v n ≡ spot.Refused
-spot_large c b l v n h =
-    pick_case (λ q. q ≡ spot.Refused) (ltb v 2) _ _ (λ _. refl) λ _.
-    pick_case (λ q. q ≡ spot.Refused) (ltb (b + (v - 2)) l) _ _ (λ _. refl) λ _. simp (le-ltb (b + (v - 2)) position_limit h)
+-- one past the limit is refused, whatever may come
+pub position_large : (b l v : ℕ) → position_limit ≤ b + (v - 2) → position_of b l v ≡ None
+position_large b l v h =
+    pick_case (λ q. q ≡ None) (ltb v 2) _ _ (λ _. refl) λ _.
+    pick_case (λ q. q ≡ None) (ltb (b + (v - 2)) l) _ _ (λ _. refl) λ _. simp (le-ltb (b + (v - 2)) position_limit h)
+
+-- what it is found to be is below the limit
+pub position_small : (b l v : ℕ) {p : ℕ} → position_of b l v ≡ Some p → p < position_limit
+position_small b l v {p} =
+    pick_case P (ltb v 2) _ _ (λ _. none) λ _.
+    pick_case P (ltb (b + (v - 2)) l) _ _ (λ _. none) λ _.
+    pick_case P (ltb (b + (v - 2)) position_limit) _ _ (λ e q. subst (λ n. n < position_limit) (same q) (ltb-true _ _ e)) λ _. none
+  where
+    P : Option ℕ → Type 0
+    P o = o ≡ Some p → p < position_limit
+
+    none : P None
+    none q = cc
+
+    same : {m n : ℕ} → Some m ≡ Some n → m ≡ n
+    same q = cc
+
+-- the machine's state, and the spot, of a position that is found or not
+abbrev pub opened : ℕ → ℕ → Option ℕ → State
+opened d c (Some p) = Open d c p (p + 1)
+opened d c None = Broken
+
+pub position_opens : (d c b l v : ℕ) → opened d c (position_of b l v) ≡ position_state d c b l v
+position_opens d c b l v =
+    bool_case (ltb v 2) (λ e. simp e) λ e.
+    bool_case (ltb (b + (v - 2)) l) (λ f. simp (e, f)) λ f.
+    bool_case (ltb (b + (v - 2)) position_limit) (λ g. simp (e, f, g)) λ g. simp (e, f, g)
+
+abbrev pub spotted : ℕ → ℕ → Option ℕ → Option Spot
+spotted c n (Some p) = spot c p n
+spotted c n None = None
+
+pub position_spots : (c b l v n : ℕ) → spotted c n (position_of b l v) ≡ spot_of c b l v n
+position_spots c b l v n =
+    bool_case (ltb v 2) (λ e. simp e) λ e.
+    bool_case (ltb (b + (v - 2)) l) (λ f. simp (e, f)) λ f.
+    bool_case (ltb (b + (v - 2)) position_limit) (λ g. simp (e, f, g)) λ g. simp (e, f, g)
+
+-- ---- a docid's difference
+
+-- the machine's state at a later docid that is found or not
+abbrev pub begun : Option ℕ → State
+begun (Some d) = Open d 0 0 0
+begun None = Broken
+
+pub docid_begins : (d v : ℕ) → begun (later_docid_of d v) ≡ next_docid_of d v
+docid_begins d v =
+    bool_case (eqb v 0) (λ e. simp e) λ e.
+    bool_case (ltb v (docid_limit - d)) (λ f. simp (e, f)) λ f. simp (e, f)
 
 -- ---- a turn of checking
 

@@ -1,6 +1,6 @@
 -- What the functions of this crate compute, as they do it: the numbers of a list are taken one after the other by a
 -- machine whose state says which kind of number comes next. The laws tie it to the content of Doclist.
-use Rattle.std.specs.Prelude.{ℕ, zero, suc, ◌+◌, ◌-◌, ◌≤◌, ◌<◌, List, length, ltb, leb, eqb}
+use Rattle.std.specs.Prelude.{ℕ, zero, suc, ◌+◌, ◌-◌, ◌≤◌, ◌<◌, List, length, ltb, leb, eqb, Option, Some, None}
 use Rattle.common.specs.Pick.{pick}
 use Rattle.common.specs.Bytes.{within}
 use Rattle.common.specs.Bounds.{max_columns}
@@ -23,12 +23,23 @@ Sane (Name d c) = d < docid_limit
 Sane (Named d c) = d < docid_limit
 Sane Broken = Unit {0}
 
+-- the position that a number stands for, if it keeps the rules: it counts from `base`, and is at least `low`
+abbrev pub position_of : ℕ → ℕ → ℕ → Option ℕ
+position_of base low v =
+    pick (ltb v 2) None
+    (pick (ltb (base + (v - 2)) low) None
+    (pick (ltb (base + (v - 2)) position_limit) (Some (base + (v - 2))) None))
+
 -- after a position's number: `base` is the position before (0 for the first), `low` the least that may come
 abbrev pub position_state : ℕ → ℕ → ℕ → ℕ → ℕ → State
 position_state d c base low v =
     pick (ltb v 2) Broken
     (pick (ltb (base + (v - 2)) low) Broken
     (pick (ltb (base + (v - 2)) position_limit) (Open d c (base + (v - 2)) (base + (v - 2) + 1)) Broken))
+
+-- the docid that comes after `d` by a difference, if the difference keeps the rules
+abbrev pub later_docid_of : ℕ → ℕ → Option ℕ
+later_docid_of d v = pick (eqb v 0) None (pick (ltb v (docid_limit - d)) (Some (d + v)) None)
 
 -- once a docid's difference was read, after the entry of the docid `d`
 abbrev pub next_docid_of : ℕ → ℕ → State

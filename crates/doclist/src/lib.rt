@@ -10,14 +10,14 @@ pub mod keys;
 ghost use Rattle.std.specs.Prelude.{◌≡◌, ◌↔◌, List, ◌<◌};
 ghost use Rattle.doclist.specs.Doclist.{Entry, WellFormed, encode_list, entry_place, position_limit};
 ghost use Rattle.doclist.specs.Spots.{spot_of, announced_of, spot_after, Closes};
-ghost use Rattle.doclist.specs.Checking.{Sane, position_state, next_docid_of, next_column_of, check_step, check_of, not_found_of, find_of};
+ghost use Rattle.doclist.specs.Checking.{Sane, position_of, position_state, later_docid_of, next_docid_of, next_column_of, check_step, check_of, not_found_of, find_of};
 
 use varint::Varint;
 
-// The number that closes an entry.
+// These two are numbers of the FTS4 layout as they are stored, not kinds of ours, and so no enum. This one closes an entry.
 const POS_END: u64 = 0;
 
-// The number that announces a column.
+// This one announces a column.
 const POS_COLUMN: u64 = 1;
 
 // What is added to a position, so that it is told from these two.
@@ -56,36 +56,22 @@ pub enum State {
     Broken,
 }
 
-// A position of an entry.
+// A position of an entry, in a column; the number after it is at `next`.
 #[derive(Drop)]
-enum Spot {
-    // In a column; the number after it is at `next`.
-    At {
-        column: u64,
-        position: u64,
-        next: usize,
-    },
-    // A rule is broken, or the list ends.
-    Refused,
+struct Spot {
+    column: u64,
+    position: u64,
+    next: usize,
 }
 
-// Where an entry ends.
-#[derive(Drop)]
-enum Closed {
-    // After its closing 0.
-    At(usize),
-    // A rule is broken, or the list ends inside the entry.
-    Refused,
-}
-
-// Whether a byte string is a posting list.
+// Whether a byte string is a posting list. An own enum: a clause of `check` speaks of `ListCheck.Accepted`.
 #[derive(Drop)]
 pub enum ListCheck {
     Accepted,
     Refused,
 }
 
-// Where the entry of a docid stands in a list.
+// Where the entry of a docid stands in a list. An own enum: a broken list is told from one without the docid.
 #[derive(Drop)]
 pub enum EntryAt {
     // From `start`, its docid number, up to `end`, after its closing 0.
@@ -96,45 +82,66 @@ pub enum EntryAt {
     Refused,
 }
 
+// The position that a number stands for, if it keeps the rules: it counts from `base`, and is at least `low`.
+fn position_of(base: u64, low: u64, v: u64) -> Option<u64>
+    requires { base < position_limit }
+    ensures { result ≡ position_of base low v }
+{
+    if v < POS_BASE {
+        return None;
+    }
+    let step = v - POS_BASE;
+    if POSITION_LIMIT - base <= step {
+        return None;
+    }
+    let position = base + step;
+    if position < low {
+        return None;
+    }
+    Some(position)
+}
+
 // The state after a position's number.
 fn position(docid: u64, column: u64, base: u64, low: u64, v: u64) -> State
     requires { base < position_limit }
     ensures { result ≡ position_state docid column base low v }
 {
-    if v < POS_BASE {
-        return State::Broken;
+    match position_of(base, low, v) {
+        Some(p) => State::Open {
+            docid,
+            column,
+            base: p,
+            low: p + 1,
+        },
+        None => State::Broken,
     }
-    let more = v - POS_BASE;
-    if POSITION_LIMIT - base <= more {
-        return State::Broken;
+}
+
+// The docid that comes after `docid` by a difference, if the difference keeps the rules.
+fn later_docid(docid: u64, v: u64) -> Option<u64>
+    ensures { result ≡ later_docid_of docid v }
+{
+    if v == 0 {
+        return None;
     }
-    let p = base + more;
-    if p < low {
-        return State::Broken;
+    if keys::MAX_KEY - docid < v {
+        return None;
     }
-    State::Open {
-        docid,
-        column,
-        base: p,
-        low: p + 1,
-    }
+    Some(docid + v)
 }
 
 // The state after a docid's difference.
 fn next_docid(docid: u64, v: u64) -> State
     ensures { result ≡ next_docid_of docid v }
 {
-    if v == 0 {
-        return State::Broken;
-    }
-    if keys::MAX_KEY - docid < v {
-        return State::Broken;
-    }
-    State::Open {
-        docid: docid + v,
-        column: 0,
-        base: 0,
-        low: 0,
+    match later_docid(docid, v) {
+        Some(later) => State::Open {
+            docid: later,
+            column: 0,
+            base: 0,
+            low: 0,
+        },
+        None => State::Broken,
     }
 }
 
@@ -185,31 +192,21 @@ fn step(q: State, v: u64, columns: u64) -> State
     }
 }
 
-// The position that a number stands for; the number after it is at `next`.
-fn spot_at(column: u64, base: u64, low: u64, v: u64, next: usize) -> Spot
+// The position that a number stands for, if it keeps the rules; the number after it is at `next`.
+fn spot_at(column: u64, base: u64, low: u64, v: u64, next: usize) -> Option<Spot>
     requires { base < position_limit }
     ensures { result ≡ spot_of column base low v next }
 {
-    if v < POS_BASE {
-        return Spot::Refused;
-    }
-    let step = v - POS_BASE;
-    if POSITION_LIMIT - base <= step {
-        return Spot::Refused;
-    }
-    let position = base + step;
-    if position < low {
-        return Spot::Refused;
-    }
-    Spot::At {
+    let position = position_of(base, low, v)?;
+    Some(Spot {
         column,
         position,
         next,
-    }
+    })
 }
 
-// The first position of the column that is announced at `at`, after the number 1.
-fn announced(s: &[u8], at: usize, column: u64, columns: u64) -> Spot
+// The first position of the column that is announced at `at`, after the number 1; None where a rule is broken, or the list ends.
+fn announced(s: &[u8], at: usize, column: u64, columns: u64) -> Option<Spot>
     ensures { result ≡ announced_of columns s.now at column }
 {
     let Varint::Value {
@@ -217,22 +214,30 @@ fn announced(s: &[u8], at: usize, column: u64, columns: u64) -> Spot
         next: after,
     } = varint::read(s, at)
     else {
-        return Spot::Refused;
+        return None;
     };
     if name <= column {
-        return Spot::Refused;
+        return None;
     }
     if columns <= name {
-        return Spot::Refused;
+        return None;
     }
     let Varint::Value { value: v, next } = varint::read(s, after) else {
-        return Spot::Refused;
+        return None;
     };
     spot_at(name, 0, 0, v, next)
 }
 
-// The position that comes next in an entry, where its next number is `v`, not 0.
-fn spot_after(s: &[u8], column: u64, base: u64, low: u64, v: u64, next: usize, columns: u64) -> Spot
+// The position that comes next in an entry, where its next number is `v`, not 0; None as in `announced`.
+fn spot_after(
+    s: &[u8],
+    column: u64,
+    base: u64,
+    low: u64,
+    v: u64,
+    next: usize,
+    columns: u64,
+) -> Option<Spot>
     requires { base < position_limit }
     ensures { result ≡ spot_after columns s.now column base low v next }
 {
@@ -242,8 +247,8 @@ fn spot_after(s: &[u8], column: u64, base: u64, low: u64, v: u64, next: usize, c
     spot_at(column, base, low, v, next)
 }
 
-// Where the entry whose columns begin at `at` is closed.
-fn close(s: &[u8], at: usize, columns: u64) -> Closed
+// Where the entry whose columns begin at `at` ends, after its closing 0; None where a rule is broken, or the list ends inside it.
+fn close(s: &[u8], at: usize, columns: u64) -> Option<usize>
     ensures { Closes columns s.now at result }
 {
     let mut column: u64 = 0;
@@ -252,23 +257,16 @@ fn close(s: &[u8], at: usize, columns: u64) -> Closed
     let mut i = at;
     loop {
         let Varint::Value { value: v, next } = varint::read(s, i) else {
-            return Closed::Refused;
+            return None;
         };
         if v == POS_END {
-            return Closed::At(next);
+            return Some(next);
         }
-        let Spot::At {
-            column: in_column,
-            position,
-            next: after,
-        } = spot_after(s, column, base, low, v, next, columns)
-        else {
-            return Closed::Refused;
-        };
-        column = in_column;
-        base = position;
-        low = position + 1;
-        i = after;
+        let spot = spot_after(s, column, base, low, v, next, columns)?;
+        column = spot.column;
+        base = spot.position;
+        low = spot.position + 1;
+        i = spot.next;
     }
 }
 
@@ -293,7 +291,7 @@ pub fn check(s: &[u8], columns: u64) -> ListCheck
     let mut docid = keys::key_of_bits(first);
     let mut i = columns_at;
     loop {
-        let Closed::At(end) = close(s, i, columns) else {
+        let Some(end) = close(s, i, columns) else {
             return ListCheck::Refused;
         };
         if s.len() <= end {
@@ -302,13 +300,10 @@ pub fn check(s: &[u8], columns: u64) -> ListCheck
         let Varint::Value { value: v, next } = varint::read(s, end) else {
             return ListCheck::Refused;
         };
-        if v == 0 {
+        let Some(later) = later_docid(docid, v) else {
             return ListCheck::Refused;
-        }
-        if keys::MAX_KEY - docid < v {
-            return ListCheck::Refused;
-        }
-        docid += v;
+        };
+        docid = later;
         i = next;
     }
 }
@@ -318,23 +313,8 @@ fn not_found(q: State) -> EntryAt
     ensures { result ≡ not_found_of q }
 {
     match q {
-        State::Between { docid: _ } => EntryAt::Absent,
-        State::Start => EntryAt::Refused,
-        State::Open {
-            docid: _,
-            column: _,
-            base: _,
-            low: _,
-        } => EntryAt::Refused,
-        State::Name {
-            docid: _,
-            column: _,
-        } => EntryAt::Refused,
-        State::Named {
-            docid: _,
-            column: _,
-        } => EntryAt::Refused,
-        State::Broken => EntryAt::Refused,
+        State::Between { .. } => EntryAt::Absent,
+        _ => EntryAt::Refused,
     }
 }
 

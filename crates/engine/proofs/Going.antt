@@ -1,4 +1,5 @@
 -- The loop over all rows: its start, its turns, and its ends.
+use Rattle.std.specs.Prelude.{Option}
 use Prim.Native.Nat.{ℕ, suc, ◌+◌, ◌*◌, ◌≤◌, ◌<◌}
 use native.Mathlib.Omega.{arith}
 use mathlib.Core.Path.{◌≡◌, refl, sym, ap, ap₂, ◌∙◌}
@@ -17,7 +18,6 @@ use Rattle.meaning.specs.Satisfies.{Live, Satisfies}
 use Rattle.chain.specs.Chains.{mark_words}
 use Rattle.cursors.specs.Groups.{Group, last_key, NextIs, row_at}
 use Rattle.cursors.specs.Arrays.{block_size, CursorsAre, MinimaAre}
-use Rattle.cursors.specs.declared.Next.{Next}
 use Rattle.engine.specs.Run.{IsCompiled, fitted}
 use Rattle.engine.specs.Rows.{max_cursors, max_blocks, RowAgrees, Ready, RowEvaluated, RowsListed}
 use Rattle.engine.specs.declared.Evaluated.{Evaluated}
@@ -27,7 +27,7 @@ use Rattle.engine.proofs.Progress.{Progress, progress_start, progress_few, next_
 
 -- what the loop knows: docids below `from` are listed, and where the query and the cursors are right, exactly those that
 -- satisfy
-pub record Going (query : Query) (leaves docids₀ bodies₀ lasts masks follows : List ℕ) (n size : ℕ) (docids bodies mins starts matched marks spare : List ℕ) (room : List ℤ) (next : Next) (from count : ℕ) : Type 0 where
+pub record Going (query : Query) (leaves docids₀ bodies₀ lasts masks follows : List ℕ) (n size : ℕ) (docids bodies mins starts matched marks spare : List ℕ) (room : List ℤ) (next : Option ℕ) (from count : ℕ) : Type 0 where
   pub listed : List ℕ
   pub rising : Rising 0 from listed
   pub limit : from ≤ docid_limit
@@ -45,7 +45,7 @@ pub record Going (query : Query) (leaves docids₀ bodies₀ lasts masks follows
       → ((d : ℕ) → RowAgrees (tree_nodes tree) live groups d) → Progress leaves docids bodies lasts masks follows n mins tree live groups next from listed
 
 -- what the least docid promises
-abbrev pub Least : List ℕ → ℕ → Next → Type 0
+abbrev pub Least : List ℕ → ℕ → Option ℕ → Type 0
 Least docids n r = (leaves bodies lasts masks follows : List ℕ) (groups : List Group) → CursorsAre leaves docids bodies lasts masks follows n groups → NextIs groups r
 
 -- and the least docids of the blocks
@@ -53,7 +53,7 @@ abbrev pub Minima : List ℕ → ℕ → ℕ → List ℕ → Type 0
 Minima docids n blocks mins = n ≤ length docids → n ≤ block_size * blocks → MinimaAre docids n mins
 
 module _ {query : Query} {leaves docids₀ bodies₀ lasts masks follows : List ℕ} {n size : ℕ} where
-  pub going_start : {mins starts matched marks spare : List ℕ} {room : List ℤ} {next : Next} → Least docids₀ n next → Minima docids₀ n max_blocks mins → room ≡ zeros size
+  pub going_start : {mins starts matched marks spare : List ℕ} {room : List ℤ} {next : Option ℕ} → Least docids₀ n next → Minima docids₀ n max_blocks mins → room ≡ zeros size
       → length mins ≡ max_blocks → length starts ≡ max_cursors → length matched ≡ max_cursors → length marks ≡ mark_words → length spare ≡ mark_words
       → Going query leaves docids₀ bodies₀ lasts masks follows n size docids₀ bodies₀ mins starts matched marks spare room next 0 0
   going_start least minima z m a b c d =
@@ -74,7 +74,7 @@ module _ {query : Query} {leaves docids₀ bodies₀ lasts masks follows : List 
         progress = λ tree live groups q k h tells. progress_start k (minima k.hold.room.docid_room (omega arith)) (least leaves bodies₀ lasts masks follows groups k);
       }
 
-  module _ {docids bodies mins starts matched marks spare : List ℕ} {room : List ℤ} {next : Next} {from count : ℕ}
+  module _ {docids bodies mins starts matched marks spare : List ℕ} {room : List ℤ} {next : Option ℕ} {from count : ℕ}
       (g : Going query leaves docids₀ bodies₀ lasts masks follows n size docids bodies mins starts matched marks spare room next from count) where
     -- the count fits
     pub going_count : count ≤ from

@@ -1,5 +1,6 @@
 -- How the list grows from row to row. Between the docids of two rows there is no row, and where there is no row no word of
 -- the query stands, so nothing is satisfied there.
+use Rattle.std.specs.Prelude.{Option}
 use Prim.Native.Nat.{ℕ, zero, suc, ◌+◌, ◌^◌, ◌≤◌, ◌<◌}
 use native.Mathlib.Omega.{arith}
 use mathlib.Core.Path.{◌≡◌, refl, sym, ◌∙◌, subst}
@@ -18,7 +19,6 @@ use Rattle.row.specs.Row.{bodies_size}
 use Rattle.chain.specs.Chains.{node_word, Agrees, max_candidates}
 use Rattle.cursors.specs.Groups.{Group, hits_at, From, NextIs, row_at}
 use Rattle.cursors.specs.Arrays.{CursorsAre, MinimaAre}
-use Rattle.cursors.specs.declared.Next.{Next}
 use Rattle.cursors.proofs.Each.{ordered}
 use Rattle.cursors.proofs.Moving.{hits_none}
 use Rattle.cursors.proofs.Few.{few_rows}
@@ -82,7 +82,7 @@ no_row t live groups d w tells none h =
 
 -- the docids below `from` are listed, and the cursors stand after it; from `since` on the rows are those at the start, and
 -- none between the two satisfies the query
-pub record Progress (leaves docids bodies lasts masks follows : List ℕ) (n : ℕ) (mins : List ℕ) (tree : Tree) (live : Live) (start : List Group) (next : Next) (from : ℕ) (listed : List ℕ) : Type 0 where
+pub record Progress (leaves docids bodies lasts masks follows : List ℕ) (n : ℕ) (mins : List ℕ) (tree : Tree) (live : Live) (start : List Group) (next : Option ℕ) (from : ℕ) (listed : List ℕ) : Type 0 where
   pub groups : List Group
   pub cursors_are : CursorsAre leaves docids bodies lasts masks follows n groups
   pub minima : MinimaAre docids n mins
@@ -94,7 +94,7 @@ pub record Progress (leaves docids bodies lasts masks follows : List ℕ) (n : �
   pub lists : ListsBelow (λ d. Satisfies live d tree) since listed
 
 module _ {leaves lasts masks follows : List ℕ} {n : ℕ} {tree : Tree} {live : Live} {start : List Group} where
-  pub progress_start : {docids bodies mins : List ℕ} {next : Next} → CursorsAre leaves docids bodies lasts masks follows n start → MinimaAre docids n mins → NextIs start next
+  pub progress_start : {docids bodies mins : List ℕ} {next : Option ℕ} → CursorsAre leaves docids bodies lasts masks follows n start → MinimaAre docids n mins → NextIs start next
       → Progress leaves docids bodies lasts masks follows n mins tree live start next 0 []
   progress_start c m e =
       record {
@@ -109,7 +109,7 @@ module _ {leaves lasts masks follows : List ℕ} {n : ℕ} {tree : Tree} {live :
         lists = lists_none (λ d. Satisfies live d tree);
       }
 
-  module _ (worded : FilledTree tree) (tells : (d : ℕ) → RowAgrees (tree_nodes tree) live start d) {docids bodies mins : List ℕ} {next : Next} {from : ℕ} {listed : List ℕ}
+  module _ (worded : FilledTree tree) (tells : (d : ℕ) → RowAgrees (tree_nodes tree) live start d) {docids bodies mins : List ℕ} {next : Option ℕ} {from : ℕ} {listed : List ℕ}
       (p : Progress leaves docids bodies lasts masks follows n mins tree live start next from listed) where
     -- fewer docids are listed than can be counted: each has a row
     pub progress_few : {docids₀ bodies₀ : List ℕ} → CursorsAre leaves docids₀ bodies₀ lasts masks follows n start → n ≤ max_cursors → length listed < 2 ^ 32
@@ -154,7 +154,7 @@ module _ {leaves lasts masks follows : List ℕ} {n : ℕ} {tree : Tree} {live :
             nothing_between
 
       -- the cursors went on
-      pub goes_on : {docids₁ bodies₁ mins₁ : List ℕ} {onward : Next} → RowLeft leaves docids₁ bodies₁ lasts masks follows n mins₁ d tree live p.groups onward
+      pub goes_on : {docids₁ bodies₁ mins₁ : List ℕ} {onward : Option ℕ} → RowLeft leaves docids₁ bodies₁ lasts masks follows n mins₁ d tree live p.groups onward
           → (more : List ℕ) → ListsBelow (λ k. Satisfies live k tree) (d + 1) more → Progress leaves docids₁ bodies₁ lasts masks follows n mins₁ tree live start onward (d + 1) more
       goes_on j more l =
           record {

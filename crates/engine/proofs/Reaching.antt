@@ -1,4 +1,5 @@
 -- The next docid: it is not before any that was reached, and it has a row.
+use Rattle.std.specs.Prelude.{Option, Some, None}
 use Prim.Native.Nat.{ℕ, ◌≤◌}
 use native.Mathlib.Omega.{arith}
 use mathlib.Core.Path.{◌≡◌, refl, sym, ap, ◌∙◌, subst}
@@ -10,8 +11,6 @@ use Rattle.doclist.specs.Doclist.{Entry}
 use Rattle.meaning.specs.Index.{MaybeEntry, nothing, entry, entry_for, or_else}
 use Rattle.row.specs.Row.{Hit}
 use Rattle.cursors.specs.Groups.{Group, first_for, hit_of, hits_at, EveryList, EveryGroup, BeginsFrom, From, GroupsBegin, last_key, NextIs, row_at}
-use Rattle.cursors.specs.declared.Next.{Next}
-use Rattle.cursors.specs.declared.Next.TheVariants.{Docid, Last}
 
 -- ---- not before any that was reached
 
@@ -30,14 +29,14 @@ begins_from from d gs f b =
     let e = b.same in
     omega arith
 
-pub next_from : (from : ℕ) (gs : List Group) (next : Next) → from ≤ last_key → From from gs → NextIs gs next → from ≤ row_at next
-next_from from gs (Docid d) l f n = begins_from from d gs f n.1
-next_from from gs Last l f n = l
+pub next_from : (from : ℕ) (gs : List Group) (next : Option ℕ) → from ≤ last_key → From from gs → NextIs gs next → from ≤ row_at next
+next_from from gs (Some d) l f n = begins_from from d gs f n.1
+next_from from gs None l f n = l
 
 -- no list begins before it
-pub next_begins : (gs : List Group) (next : Next) → NextIs gs next → From (row_at next) gs
-next_begins gs (Docid d) n = n.0
-next_begins gs Last n = n
+pub next_begins : (gs : List Group) (next : Option ℕ) → NextIs gs next → From (row_at next) gs
+next_begins gs (Some d) n = n.0
+next_begins gs None n = n
 
 -- ---- it has a row
 

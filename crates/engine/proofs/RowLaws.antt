@@ -1,4 +1,5 @@
 -- One row: what the cursors hand out is what judging asks for, and the rows that they pass over satisfy nothing.
+use Rattle.std.specs.Prelude.{Option, Some, None}
 use Prim.Native.Nat.{ℕ, ◌+◌, ◌≤◌, ◌<◌}
 use native.Mathlib.Numerals.{add-one}
 use native.Mathlib.Omega.{arith}
@@ -13,8 +14,6 @@ use Rattle.cursors.specs.Groups.{Group, hits_at, moved, From, last_key, NextIs, 
 use Rattle.cursors.specs.Arrays.{CursorsAre, MinimaAre, RowTaken}
 use Rattle.cursors.specs.Frames.{Advances}
 use Rattle.cursors.specs.declared.Taken.{Taken}
-use Rattle.cursors.specs.declared.Next.{Next}
-use Rattle.cursors.specs.declared.Next.TheVariants.{Docid, Last}
 use Rattle.cursors.proofs.Each.{ordered}
 use Rattle.cursors.proofs.Moving.{hits_moved, from_moved, hits_none}
 use Rattle.evaluate.specs.Needs.{Needed}
@@ -23,7 +22,7 @@ use Rattle.engine.proofs.Lacking.{lacking_not}
 use Rattle.engine.proofs.Reaching.{begins_hits}
 
 -- what `go_on` promises
-abbrev pub CursorsGoOn : (leaves docids bodies lasts masks : List ℕ) (n : ℕ) (mins : List ℕ) (needed : ℕ) (docids₁ bodies₁ mins₁ : List ℕ) → Taken → Next → Type 0
+abbrev pub CursorsGoOn : (leaves docids bodies lasts masks : List ℕ) (n : ℕ) (mins : List ℕ) (needed : ℕ) (docids₁ bodies₁ mins₁ : List ℕ) → Taken → Option ℕ → Type 0
 CursorsGoOn leaves docids bodies lasts masks n mins needed docids₁ bodies₁ mins₁ row r =
     (follows : List ℕ) (groups : List Group)
     → CursorsAre leaves docids bodies lasts masks follows n groups
@@ -35,7 +34,7 @@ CursorsGoOn leaves docids bodies lasts masks n mins needed docids₁ bodies₁ m
 -- ---- the row
 
 module _ {query : Query} {leaves docids bodies lasts masks follows : List ℕ} {n : ℕ} {mins : List ℕ} {docid : ℕ} {starts matched marks spare docids₁ bodies₁ mins₁ starts₁ matched₁ docids₂ bodies₂ mins₂ : List ℕ} {needed : ℕ}
-    (taken : Taken) (next : Next)
+    (taken : Taken) (next : Option ℕ)
     (needs : Needed query.ops.codes query.ops.len query.words.count needed)
     (advances : Advances docid n leaves lasts masks follows (record { docids = docids; bodies = bodies; mins = mins }) (record { docids = docids₁; bodies = bodies₁; mins = mins₁ }) (record { starts = starts; matched = matched }) (record { starts = starts₁; matched = matched₁ }) taken)
     (goes_on : CursorsGoOn leaves docids₁ bodies₁ lasts masks n mins₁ needed docids₂ bodies₂ mins₂ taken next)
@@ -54,12 +53,12 @@ module _ {query : Query} {leaves docids bodies lasts masks follows : List ℕ} {
   behind : docid < last_key → docid < row_at next
   behind l = go next on.next_is on.reached
     where
-      go : (r : Next) → NextIs on.left r → on.since ≤ row_at r → docid < row_at r
-      go (Docid d) n k =
+      go : (r : Option ℕ) → NextIs on.left r → on.since ≤ row_at r → docid < row_at r
+      go (Some d) n k =
           split d (docid + 1)
           (λ h. absurd (begins_hits d on.left n.1 (on.same d k ∙ hits_none (docid + 1) d (moved docid groups) (ordered row.cursors_are) later h)))
           (λ h. omega arith)
-      go Last n k = l
+      go None n k = l
 
   -- rows after this one that lack a word don't satisfy the query
   passed : (d : ℕ) → docid < d → d < on.since → Satisfies live d tree → ⊥

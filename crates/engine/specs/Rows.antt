@@ -1,7 +1,7 @@
 -- How a run goes from row to row. The cursors stand in groups, and the entries on one docid are its row; the row is evaluated,
 -- and the cursors go on to the next docid. Where just one cursor stands before the others, and its word does not match all
 -- words that the query needs, it passes over its rows up to them: none of these can satisfy the query.
-use Rattle.std.specs.Prelude.{ℕ, ◌≤◌, ◌<◌, ◌≡◌, ◌↔◌, Bool, true, ℤ, length, get_or}
+use Rattle.std.specs.Prelude.{ℕ, ◌≤◌, ◌<◌, ◌≡◌, ◌↔◌, Bool, true, ℤ, length, get_or, Option}
 use mathlib.Core.List.{List, Memᴰ}
 use Rattle.std.specs.Int.Bits.{bit_and}
 use Rattle.doclist.specs.Docid.{docid_limit}
@@ -15,7 +15,6 @@ use Rattle.row.specs.Row.{Hit, bodies_size}
 use Rattle.chain.specs.Chains.{max_candidates, Agrees, MarkRoom}
 use Rattle.cursors.specs.Groups.{Group, hits_at, From, last_key, NextIs, row_at}
 use Rattle.cursors.specs.Arrays.{CursorsAre, MinimaAre}
-use Rattle.cursors.specs.declared.Next.{Next}
 use Rattle.cursors.specs.declared.Taken.{Taken}
 use Rattle.evaluate.specs.Evaluate.{RowGiven}
 use Rattle.engine.specs.Run.{IsCompiled, fitted}
@@ -59,7 +58,7 @@ abbrev pub OneCursor : List ℕ → ℕ → Taken → Type 0
 OneCursor docids n row = row.taken ≡ 1 → (row.last < n) × ((k : ℕ) → k < n → (k ≡ row.last → ⊥) → row.rest ≤ get_or docids k 0)
 
 -- the cursors went on: from the docid `since` on the rows are as they were, and each before it lacks a word
-pub record WentOn (leaves docids bodies lasts masks follows : List ℕ) (n : ℕ) (mins : List ℕ) (needed : ℕ) (groups : List Group) (next : Next) : Type 0 where
+pub record WentOn (leaves docids bodies lasts masks follows : List ℕ) (n : ℕ) (mins : List ℕ) (needed : ℕ) (groups : List Group) (next : Option ℕ) : Type 0 where
   pub left : List Group
   pub cursors_are : CursorsAre leaves docids bodies lasts masks follows n left
   pub minima : MinimaAre docids n mins
@@ -84,7 +83,7 @@ pub record Ready (query : Query) (leaves docids bodies lasts masks follows : Lis
   pub tells : (d : ℕ) → docid ≤ d → RowAgrees (tree_nodes tree) live groups d
 
 -- the cursors went on after a row: from the docid `since` on the rows are as they were, and none before it satisfies the query
-pub record RowLeft (leaves docids bodies lasts masks follows : List ℕ) (n : ℕ) (mins : List ℕ) (docid : ℕ) (tree : Tree) (live : Live) (groups : List Group) (next : Next) : Type 0 where
+pub record RowLeft (leaves docids bodies lasts masks follows : List ℕ) (n : ℕ) (mins : List ℕ) (docid : ℕ) (tree : Tree) (live : Live) (groups : List Group) (next : Option ℕ) : Type 0 where
   pub left : List Group
   pub cursors_are : CursorsAre leaves docids bodies lasts masks follows n left
   pub minima : MinimaAre docids n mins

@@ -10,14 +10,15 @@ ghost use Rattle.doclist.specs.Docid.{docid_of};
 ghost use Rattle.meaning.specs.Satisfies.{Live};
 ghost use Rattle.query.specs.Tree.{Tree};
 ghost use Rattle.row.specs.Row.{Hit, RowIs};
-ghost use Rattle.cursors.specs.Groups.{Group, last_key, NextIs, row_at};
+ghost use Rattle.cursors.specs.Groups.{Group, last_key, NextIs};
 ghost use Rattle.cursors.specs.Arrays.{CursorsAre, MinimaAre};
 ghost use Rattle.evaluate.specs.Needs.{Needed};
 ghost use Rattle.engine.specs.Run.{Ran};
 ghost use Rattle.engine.specs.Rows.{Lacking, RowDecided, OneCursor, WentOn, Ready, RowEvaluated, RowsListed};
 
-use cursors::{Next, Taken};
+use cursors::Taken;
 use doclist::keys::MAX_KEY;
+use opening::{Leaves, Text};
 
 // A word takes at least 6 of the leaves' 65,536 bytes, so there are no more cursors than this.
 const MAX_CURSORS: usize = 10922;
@@ -44,32 +45,24 @@ fn note(room: &mut [i64], count: usize, docid: u64, holds: bool) -> usize
 {
     if holds {
         put_docid(room, count, docid);
-        return count + 1;
+        count + 1
+    } else {
+        count
     }
-    count
 }
 
 // Whether a set of words lacks one that is needed.
 fn lacks(set: u16, needed: u16) -> bool
     ensures { result ≡ true → bit_and set needed ≡ needed → ⊥ }
 {
-    if set & needed == needed {
-        return false;
-    }
-    true
+    set & needed != needed
 }
 
 // Whether a row of one hit lacks a word that is needed.
 fn hit_lacks(matched: &[u16], hits: usize, needed: u16) -> bool
     ensures { result ≡ true → (leaves starts : List ℕ) (row : List Hit) → RowIs leaves starts matched.now row → hits ≡ length row → Lacking needed row }
 {
-    if hits != 1 {
-        return false;
-    }
-    if matched.len() < 1 {
-        return false;
-    }
-    lacks(matched[0], needed)
+    hits == 1 && !matched.is_empty() && lacks(matched[0], needed)
 }
 
 // Whether a row satisfies the query, where `needed` are the words that the query needs. A row of one hit that lacks such a
@@ -90,22 +83,29 @@ fn row_holds(
     if hit_lacks(matched, hits, needed) {
         return false;
     }
+    // Copies of these small arrays: lent where they lie, they made a call copy the whole query, which took a tenth longer.
     let words = query.words;
     let ties = words.ties;
     let distances = words.distances;
     let columns = words.columns;
     let ops = query.ops;
     let codes = ops.codes;
+    let tied = chain::Words {
+        ties: &ties,
+        distances: &distances,
+        columns: &columns,
+    };
+    let row = row::Row {
+        leaves,
+        starts,
+        masks: matched,
+    };
     evaluate::holds(
-        &ties,
-        &distances,
-        &columns,
+        &tied,
         words.count,
         &codes,
         ops.len,
-        leaves,
-        starts,
-        matched,
+        &row,
         hits,
         marks,
         spare,
@@ -124,18 +124,12 @@ fn go_on(
     masks: &[u16],
     n: usize,
     mins: &mut [u64],
-) -> Next
+) -> Option<u64>
     ensures { (follows : List ℕ) (groups : List Group) → CursorsAre leaves.now docids.old bodies.old lasts.now masks.now follows n groups → MinimaAre docids.old n mins.old → NextIs groups row.next → OneCursor docids.old n row → WentOn leaves.now docids.new bodies.new lasts.now masks.now follows n mins.new needed groups result }
 {
     let next = row.next;
-    if row.taken != 1 {
-        return next;
-    }
     let last = row.last;
-    if masks.len() <= last {
-        return next;
-    }
-    if !lacks(masks[last], needed) {
+    if row.taken != 1 || masks.len() <= last || !lacks(masks[last], needed) {
         return next;
     }
     cursors::pass(last, row.rest, leaves, docids, bodies, lasts, n, mins)
@@ -145,7 +139,7 @@ fn go_on(
 #[derive(Drop)]
 struct Evaluated {
     holds: bool,
-    next: Next,
+    next: Option<u64>,
 }
 
 // Takes the row at a docid before which no cursor stands, and judges it. `needed` are the words that the query needs.
@@ -179,16 +173,6 @@ fn take_row(
     Evaluated { holds, next }
 }
 
-// The docid of the row to go on with.
-fn row_at(next: Next) -> u64
-    ensures { result ≡ row_at next }
-{
-    match next {
-        Next::Docid(docid) => docid,
-        Next::Last => MAX_KEY,
-    }
-}
-
 // Goes through all rows, from the least docid on; the last docid has a row, if only an empty one. The docids of those that satisfy the query go to the room, which is all
 // zeros. How many they are.
 fn rows(
@@ -219,11 +203,8 @@ fn rows(
     let mut from: u64 = 0;
     let mut count: usize = 0;
     loop {
-        let docid = row_at(next);
-        if docid < from {
-            return count;
-        }
-        if count == MAX_COUNT {
+        let docid = next.unwrap_or(MAX_KEY);
+        if docid < from || count == MAX_COUNT {
             return count;
         }
         let row = take_row(
@@ -273,14 +254,20 @@ pub fn run(
     let text = words.text;
     let stops = words.ends;
     let marks = words.marks;
-    let n = opening::open(
-        &text,
-        &stops,
-        &marks,
-        words.count,
-        leaves,
+    let asked = Text {
+        bytes: &text,
+        stops: &stops,
+        marks: &marks,
+        count: words.count,
+    };
+    let lent = Leaves {
+        bytes: leaves,
         ends,
         order,
+    };
+    let n = opening::open(
+        asked,
+        lent,
         &mut docids,
         &mut bodies,
         &mut lasts,

@@ -1,20 +1,18 @@
 -- Where a query is built of chains and AND alone, each of its words stands somewhere in a row that satisfies it.
-use Prim.Native.Nat.{ℕ, zero, suc, ◌+◌, ◌-◌, ◌^◌, ◌≤◌, ◌<◌}
-use native.Mathlib.Nat.{zero-div, div-eq_of_lt, lt_of_lt_of_le}
-use native.Mathlib.Numerals.{add-one}
+use Prim.Native.Nat.{ℕ, zero, suc, ◌-◌, ◌^◌, ◌<◌}
+use native.Mathlib.Nat.{div-eq_of_lt, lt_of_lt_of_le}
 use native.Mathlib.Omega.{arith}
 use mathlib.Core.Path.{◌≡◌, refl, sym, ap, ◌∙◌}
-use mathlib.Core.Bool.{Bool, true, false}
+use mathlib.Core.Bool.{Bool, true}
 use mathlib.Core.List.{List, [], ◌∷◌, ◌++◌}
-use lib.ListN.{length, get_or, take, drop, drop_of_length-le}
-use lib.Seq.{drop-cons}
+use lib.ListN.{length, take}
 use lib.Dec.{leb}
 use lib.Pow.{pow_pos, pow_mono}
-use borrow.Author.Tests.{le-leb, lt-leb}
 use Rattle.common.specs.Pick.{both}
-use Rattle.common.proofs.Cases.{false_not_true, both_left, both_right, split}
+use Rattle.std.specs.List.{list_all}
+use Rattle.common.proofs.Cases.{bool_case, false_not_true, both_left, both_right, split}
 use Rattle.common.specs.Bits.{contains}
-use Rattle.lexer.specs.Token.{QueryWord, Tie, continues, Node, phrase_nodes, begins, nears, max_words}
+use Rattle.lexer.specs.Token.{QueryWord, Tie, continues, Node, phrase_nodes, begins, nears}
 use Rattle.query.specs.Tree.{Op, OR, AND, NOT, Link, Tree, leaf, joined, link_nodes, tree_nodes, op_code, postfix}
 use Rattle.meaning.specs.Satisfies.{Standing, StandsAt, Consecutive, Occurrence, Chosen, Holds}
 use Rattle.evaluate.specs.Needs.{Somewhere, Needed, conjunctive, first_words}
@@ -73,10 +71,6 @@ each_somewhere stands (n ∷ nodes) (suc i) h e =
 
 -- ---- the set of words
 
--- a bit for each of at most 16 words
-pub power_small : (count : ℕ) → count ≤ max_words → (0 < 2 ^ count) × (2 ^ count ≤ 65536)
-power_small count h = (pow_pos count, pow_mono {j = 16} h)
-
 first_inside : (count i : ℕ) → contains (first_words count) i ≡ true → i < count
 first_inside count i e =
     split i count (λ h. h)
@@ -85,21 +79,12 @@ first_inside count i e =
     let z = div-eq_of_lt (lt_of_lt_of_le l (pow_mono h)) in
     false_not_true (sym (rw z refl) ∙ e))
 
--- ---- the loop
-
-pub plain_end : (codes : List ℕ) (i : ℕ) → length codes ≤ i → conjunctive (drop i codes) ≡ true
-plain_end codes i h = rw (drop_of_length-le codes h) refl
-
-pub plain_more : (codes : List ℕ) (i : ℕ) → i < length codes → get_or codes i 0 ≤ 1 → conjunctive (drop (i + 1) codes) ≡ conjunctive (drop i codes)
-plain_more codes i h l = rw (add-one, drop-cons codes i 0 h, le-leb _ _ l) refl
-
-pub plain_stop : (codes : List ℕ) (i : ℕ) → i < length codes → 1 < get_or codes i 0 → conjunctive (drop i codes) ≡ false
-plain_stop codes i h l = rw (drop-cons codes i 0 h, lt-leb _ _ l) refl
+-- the test of each code, as std says it
+pub conjunctive_all : (codes : List ℕ) → list_all (λ c. leb c 1) codes ≡ conjunctive codes
+conjunctive_all [] = refl
+conjunctive_all (c ∷ cs) = bool_case (leb c 1) (λ t. rw t (conjunctive_all cs)) (λ t. rw t refl)
 
 -- ---- the answers of `needs`
-
-pub needed_none : (codes : List ℕ) (len count : ℕ) → Needed codes len count 0
-needed_none codes len count tree live docid c h i e = false_not_true (sym (rw (zero-div (2 ^ i)) refl) ∙ e)
 
 pub needed_all : (codes : List ℕ) (len count : ℕ) → conjunctive (take len codes) ≡ true → Needed codes len count (first_words count)
 needed_all codes len count plain tree live docid c h i e =

@@ -7,12 +7,9 @@ ghost use Rattle.chain.specs.Chains.{NotEvaluated, RoomsKept};
 ghost use Rattle.evaluate.specs.Evaluate.{DecidesQuery, QueryLengths, Runs, push_bit, combined, applied, top_of};
 ghost use Rattle.evaluate.specs.Needs.{conjunctive, first_words, needs_of, Needed};
 
-// The codes of a compiled query. What is none of them is taken as NOT.
-const CODE_CHAIN: u8 = 0;
-
-const CODE_AND: u8 = 1;
-
-const CODE_OR: u8 = 2;
+use chain::Words;
+use query::{CODE_AND, CODE_CHAIN, CODE_OR};
+use row::Row;
 
 // The answer where the arrays are too short.
 const TOO_SHORT: bool = false;
@@ -24,10 +21,7 @@ const KEPT: u32 = 0x8000_0000;
 fn push(stack: u32, answer: bool) -> u32
     ensures { result ≡ push_bit stack answer }
 {
-    if answer {
-        return stack % KEPT * 2 + 1;
-    }
-    stack % KEPT * 2
+    stack % KEPT * 2 + u32::from(answer)
 }
 
 // The answer on the top of the stack.
@@ -37,17 +31,15 @@ fn top(stack: u32) -> bool
     stack % 2 == 1
 }
 
-// What an operator makes of its left and its right side.
+// What an operator makes of its left and its right side. A code that is none of a compiled query is taken as NOT.
 fn combine(code: u8, left: bool, right: bool) -> bool
     ensures { result ≡ combined code left right }
 {
-    if code == CODE_AND {
-        return left && right;
+    match code {
+        CODE_AND => left && right,
+        CODE_OR => left || right,
+        _ => left && !right,
     }
-    if code == CODE_OR {
-        return left || right;
-    }
-    left && !right
 }
 
 // The stack after an operator: its two sides are taken from it, and its answer is put on it.
@@ -58,78 +50,57 @@ fn apply(stack: u32, code: u8) -> u32
 }
 
 // Whether the query holds, where the arrays have no more elements than the query has words and codes and the row has hits.
-fn run(
-    ties: &[u8],
-    distances: &[u16],
-    columns: &[u16],
-    codes: &[u8],
-    leaves: &[u8],
-    starts: &[u16],
-    masks: &[u16],
-    marks: &mut [u64],
-    spare: &mut [u64],
-) -> bool
-    ensures content { Runs ties.now distances.now columns.now codes.now leaves.now starts.now masks.now marks.old spare.old result }
+fn run(words: &Words, codes: &[u8], row: &Row, marks: &mut [u64], spare: &mut [u64]) -> bool
+    ensures content { Runs words.now.ties.now words.now.distances.now words.now.columns.now codes.now row.now.leaves.now row.now.starts.now row.now.masks.now marks.old spare.old result }
     ensures frame { RoomsKept marks.old marks.new spare.old spare.new }
 {
     let mut stack: u32 = 0;
     let mut word: usize = 0;
-    let mut i: usize = 0;
-    while i < codes.len() {
-        let code = codes[i];
-        if code == CODE_CHAIN {
-            let answer = chain::holds(
-                ties, distances, columns, word, leaves, starts, masks, marks, spare,
-            );
+    for code in codes {
+        if *code == CODE_CHAIN {
+            let answer = chain::holds(words, word, row, marks, spare);
             stack = push(stack, answer);
-            word = chain::chain_end(ties, word);
-            i += 1;
+            word = chain::chain_end(words.ties, word);
             continue;
         }
-        stack = apply(stack, code);
-        i += 1;
+        stack = apply(stack, *code);
     }
     top(stack)
 }
 
-// Whether a query holds in a row. The query is given by the arrays of its compiled form: how each of its `count` words is tied
-// to the one before, the distance at NEAR, the columns that the word may stand in, and its `len` codes in postfix order. The
-// row is given by where the body of each of its `hits` hits begins in the leaves, and which of the query's words the hit
-// matches. `marks` and `spare` are room to work in, of `chain::MARK_WORDS` words each.
+// Whether a query holds in a row. The query is given by its first `count` words and its first `len` codes, in postfix order; the
+// row by its first `hits` hits. `marks` and `spare` are room to work in, of `chain::MARK_WORDS` words each. The numbers stand
+// beside the arrays, since arrays that are too short for them have an answer too (`otherwise`).
 pub fn holds(
-    ties: &[u8],
-    distances: &[u16],
-    columns: &[u16],
+    words: &Words,
     count: usize,
     codes: &[u8],
     len: usize,
-    leaves: &[u8],
-    starts: &[u16],
-    masks: &[u16],
+    row: &Row,
     hits: usize,
     marks: &mut [u64],
     spare: &mut [u64],
 ) -> bool
-    ensures content { DecidesQuery ties.now distances.now columns.now count codes.now len leaves.now starts.now masks.now hits marks.old spare.old result }
-    ensures otherwise { (QueryLengths ties.now distances.now columns.now count codes.now len starts.now masks.now hits marks.old spare.old → ⊥) → NotEvaluated marks.old marks.new spare.old spare.new result }
+    ensures content { DecidesQuery words.now.ties.now words.now.distances.now words.now.columns.now count codes.now len row.now.leaves.now row.now.starts.now row.now.masks.now hits marks.old spare.old result }
+    ensures otherwise { (QueryLengths words.now.ties.now words.now.distances.now words.now.columns.now count codes.now len row.now.starts.now row.now.masks.now hits marks.old spare.old → ⊥) → NotEvaluated marks.old marks.new spare.old spare.new result }
     ensures frame { RoomsKept marks.old marks.new spare.old spare.new }
 {
-    if ties.len() < count {
+    if words.ties.len() < count {
         return TOO_SHORT;
     }
-    if distances.len() < count {
+    if words.distances.len() < count {
         return TOO_SHORT;
     }
-    if columns.len() < count {
+    if words.columns.len() < count {
         return TOO_SHORT;
     }
     if codes.len() < len {
         return TOO_SHORT;
     }
-    if starts.len() < hits {
+    if row.starts.len() < hits {
         return TOO_SHORT;
     }
-    if masks.len() < hits {
+    if row.masks.len() < hits {
         return TOO_SHORT;
     }
     if marks.len() < chain::MARK_WORDS {
@@ -138,31 +109,24 @@ pub fn holds(
     if spare.len() < chain::MARK_WORDS {
         return TOO_SHORT;
     }
-    run(
-        &ties[..count],
-        &distances[..count],
-        &columns[..count],
-        &codes[..len],
-        leaves,
-        &starts[..hits],
-        &masks[..hits],
-        marks,
-        spare,
-    )
+    let query = Words {
+        ties: &words.ties[..count],
+        distances: &words.distances[..count],
+        columns: &words.columns[..count],
+    };
+    let part = Row {
+        leaves: row.leaves,
+        starts: &row.starts[..hits],
+        masks: &row.masks[..hits],
+    };
+    run(&query, &codes[..len], &part, marks, spare)
 }
 
 // Whether the codes are those of chains and AND alone.
 fn is_conjunction(codes: &[u8]) -> bool
     ensures { result ≡ conjunctive codes.now }
 {
-    let mut i: usize = 0;
-    while i < codes.len() {
-        if CODE_AND < codes[i] {
-            return false;
-        }
-        i += 1;
-    }
-    true
+    codes.iter().all(|code| *code <= CODE_AND)
 }
 
 // The set of the first `count` words, bit i for word number i.

@@ -3,66 +3,32 @@
 #![tactic(auto)]
 
 ghost use Rattle.std.specs.Prelude.{◌≡◌, length, true, false};
-ghost use Rattle.leaf.specs.Answers.{check_numbers};
-ghost use Rattle.writer.specs.Answers.{numbers_of};
-ghost use Rattle.search.specs.Search as answers;
+ghost use Rattle.common.specs.Refusals.{numbers};
 ghost use Rattle.doclist.specs.Docid.{key_of};
-ghost use Rattle.verdict.specs.Sheet as verdict;
 ghost use Rattle.verdict.specs.Sheet.{RunRight, row_count};
 ghost use Rattle.merge.specs.Merge as merges;
 ghost use Rattle.fts4box.specs.Calls.{Checked, LookedUp, Decided, Written, Found, Merged, Judged, answer_start, entry_start, entry_leaf, signed, sheet_second, passed_of, failed_of, silenced_of, none_of, RunCounted};
 
 use doclist::keys;
-use leaf::LeafCheck;
 use lookup::{EntryAnswer, WordAnswer};
 use verdict::Sheet;
-use writer::Answer;
-
-const ACCEPTED: u32 = 0;
-
-const SHAPE: u32 = 1;
-
-const QUERY: u32 = 2;
-
-const LEAF: u32 = 3;
-
-const ROOM: u32 = 4;
-
-const WORD: u32 = 5;
-
-const TWO_VERDICTS: u32 = 7;
-
-fn check_number(answer: LeafCheck) -> u32
-    ensures { result ≡ (check_numbers answer).number }
-{
-    match answer {
-        LeafCheck::Accepted => ACCEPTED,
-        LeafCheck::Shape => SHAPE,
-        LeafCheck::Broken => LEAF,
-    }
-}
 
 // Checks one leaf.
 #[unsafe(no_mangle)]
 pub extern "C" fn fts4_check(leaf: &[u8], columns: u32, second: &mut u64) -> u32
     ensures { Checked columns leaf.now result second.new }
 {
-    *second = 0;
-    check_number(leaf::check(leaf, columns))
+    let checked = leaf::check(leaf, columns);
+    *second = checked.second() as u64;
+    checked.number()
 }
 
 fn word_start(answer: WordAnswer) -> u64
     ensures { result ≡ answer_start answer }
 {
     match answer {
-        WordAnswer::Found {
-            start,
-            size: _,
-            read: _,
-        } => start as u64,
-        WordAnswer::Nothing { read: _ } => 0,
-        WordAnswer::Shape => 0,
-        WordAnswer::Broken => 0,
+        WordAnswer::Found { start, .. } => start as u64,
+        _ => 0,
     }
 }
 
@@ -89,12 +55,8 @@ fn entry_start(answer: EntryAnswer) -> u64
     ensures { result ≡ entry_start answer }
 {
     match answer {
-        EntryAnswer::Newer { start, size: _ } => start as u64,
-        EntryAnswer::Older { start, size: _ } => start as u64,
-        EntryAnswer::Nothing => 0,
-        EntryAnswer::Shape => 0,
-        EntryAnswer::NewerBroken => 0,
-        EntryAnswer::OlderBroken => 0,
+        EntryAnswer::Newer { start, .. } | EntryAnswer::Older { start, .. } => start as u64,
+        _ => 0,
     }
 }
 
@@ -102,12 +64,8 @@ fn entry_leaf(answer: EntryAnswer) -> u32
     ensures { result ≡ entry_leaf answer }
 {
     match answer {
-        EntryAnswer::Newer { start: _, size: _ } => 0,
-        EntryAnswer::Older { start: _, size: _ } => 1,
-        EntryAnswer::Nothing => 0,
-        EntryAnswer::Shape => 0,
-        EntryAnswer::NewerBroken => 0,
-        EntryAnswer::OlderBroken => 0,
+        EntryAnswer::Older { .. } => 1,
+        _ => 0,
     }
 }
 
@@ -132,28 +90,6 @@ pub extern "C" fn fts4_deciding(
     lookup::entry_number(answer)
 }
 
-fn write_number(answer: Answer) -> u32
-    ensures { result ≡ (numbers_of answer).number }
-{
-    match answer {
-        Answer::Written(_) => ACCEPTED,
-        Answer::Shape => SHAPE,
-        Answer::Overlong(_) => WORD,
-        Answer::Room(_) => ROOM,
-    }
-}
-
-fn write_second(answer: Answer) -> u64
-    ensures { result ≡ (numbers_of answer).second }
-{
-    match answer {
-        Answer::Written(n) => n as u64,
-        Answer::Shape => 0,
-        Answer::Overlong(column) => column as u64,
-        Answer::Room(need) => need as u64,
-    }
-}
-
 // Writes the leaf for one document.
 #[unsafe(no_mangle)]
 pub extern "C" fn fts4_write(
@@ -165,33 +101,9 @@ pub extern "C" fn fts4_write(
 ) -> u32
     ensures { Written docid texts.now ends.now room.old room.new result second.new }
 {
-    let answer = writer::write(docid, texts, ends, room);
-    *second = write_second(answer);
-    write_number(answer)
-}
-
-fn search_number(answer: search::Answer) -> u32
-    ensures { result ≡ (answers.numbers_of answer).number }
-{
-    match answer {
-        search::Answer::Found(_) => ACCEPTED,
-        search::Answer::Shape => SHAPE,
-        search::Answer::Query => QUERY,
-        search::Answer::Leaf(_) => LEAF,
-        search::Answer::Room(_) => ROOM,
-    }
-}
-
-fn search_second(answer: search::Answer) -> u64
-    ensures { result ≡ (answers.numbers_of answer).second }
-{
-    match answer {
-        search::Answer::Found(n) => n as u64,
-        search::Answer::Shape => 0,
-        search::Answer::Query => 0,
-        search::Answer::Leaf(i) => i as u64,
-        search::Answer::Room(n) => n as u64,
-    }
+    let written = writer::write(docid, texts, ends, room);
+    *second = written.second() as u64;
+    written.number()
 }
 
 // Lists all docids that satisfy a query.
@@ -212,68 +124,19 @@ pub extern "C" fn fts4_search(
     let answer = search::search(
         names, name_ends, leaves, leaf_ends, levels, indexes, query, room,
     );
-    *second = search_second(answer);
-    search_number(answer)
+    *second = answer.second() as u64;
+    answer.number()
 }
 
-fn merge_number(answer: merge::Answer) -> u32
-    ensures { result ≡ (merges.numbers_of answer).number }
+// Stores what a merge answered, and returns its number.
+fn store_merge(merged: merge::Answer, second: &mut u64, level: &mut u32, index: &mut u32) -> u32
+    ensures numbers_are { numbers result second.new ≡ merges.numbers_of merged }
+    ensures pair_is { record { level = level.new; index = index.new } ≡ merges.pair_of merged }
 {
-    match answer {
-        merge::Answer::Written {
-            size: _,
-            level: _,
-            index: _,
-        } => ACCEPTED,
-        merge::Answer::Shape => SHAPE,
-        merge::Answer::Leaf(_) => LEAF,
-        merge::Answer::Room(_) => ROOM,
-    }
-}
-
-fn merge_second(answer: merge::Answer) -> u64
-    ensures { result ≡ (merges.numbers_of answer).second }
-{
-    match answer {
-        merge::Answer::Written {
-            size,
-            level: _,
-            index: _,
-        } => size as u64,
-        merge::Answer::Shape => 0,
-        merge::Answer::Leaf(i) => i as u64,
-        merge::Answer::Room(need) => need as u64,
-    }
-}
-
-fn merge_level(answer: merge::Answer) -> u32
-    ensures { result ≡ (merges.pair_of answer).level }
-{
-    match answer {
-        merge::Answer::Written {
-            size: _,
-            level,
-            index: _,
-        } => level,
-        merge::Answer::Shape => 0,
-        merge::Answer::Leaf(_) => 0,
-        merge::Answer::Room(_) => 0,
-    }
-}
-
-fn merge_index(answer: merge::Answer) -> u32
-    ensures { result ≡ (merges.pair_of answer).index }
-{
-    match answer {
-        merge::Answer::Written {
-            size: _,
-            level: _,
-            index,
-        } => index,
-        merge::Answer::Shape => 0,
-        merge::Answer::Leaf(_) => 0,
-        merge::Answer::Room(_) => 0,
-    }
+    *second = merged.second() as u64;
+    *level = merged.level();
+    *index = merged.index();
+    merged.number()
 }
 
 // The full merge of all leaves of an index.
@@ -292,10 +155,7 @@ pub extern "C" fn fts4_merge(
     ensures { Merged false (record { columns = columns; leaves = leaves.now; leaf_ends = leaf_ends.now; levels = levels.now; indexes = indexes.now }) (length room.old) room.new result second.new level.new index.new }
 {
     let answer = merge::merge(columns, leaves, leaf_ends, levels, indexes, room);
-    *second = merge_second(answer);
-    *level = merge_level(answer);
-    *index = merge_index(answer);
-    merge_number(answer)
+    store_merge(answer, second, level, index)
 }
 
 // The merge of neighbours that keeps deletions.
@@ -314,28 +174,7 @@ pub extern "C" fn fts4_merge_keeping(
     ensures { Merged true (record { columns = columns; leaves = leaves.now; leaf_ends = leaf_ends.now; levels = levels.now; indexes = indexes.now }) (length room.old) room.new result second.new level.new index.new }
 {
     let answer = merge::merge_keeping(columns, leaves, leaf_ends, levels, indexes, room);
-    *second = merge_second(answer);
-    *level = merge_level(answer);
-    *index = merge_index(answer);
-    merge_number(answer)
-}
-
-fn sheet_number(sheet: Sheet) -> u32
-    ensures { result ≡ (verdict.numbers_of sheet).number }
-{
-    match sheet {
-        Sheet::Counted {
-            passed: _,
-            failed: _,
-            silent: _,
-            none: _,
-        } => ACCEPTED,
-        Sheet::Shape => SHAPE,
-        Sheet::Query => QUERY,
-        Sheet::Leaf(_) => LEAF,
-        Sheet::Room(_) => ROOM,
-        Sheet::Twice(_) => TWO_VERDICTS,
-    }
+    store_merge(answer, second, level, index)
 }
 
 // The signed number of the same 64 bits.
@@ -358,12 +197,7 @@ fn sheet_second(sheet: Sheet, first: i64, last: i64) -> i64
     ensures { result ≡ sheet_second sheet }
 {
     match sheet {
-        Sheet::Counted {
-            passed: _,
-            failed: _,
-            silent: _,
-            none: _,
-        } => signed_of(row_count(first, last)),
+        Sheet::Counted { .. } => signed_of(row_count(first, last)),
         Sheet::Shape => signed_of(0),
         Sheet::Query => signed_of(0),
         Sheet::Leaf(i) => signed_of(i as u64),
@@ -372,75 +206,36 @@ fn sheet_second(sheet: Sheet, first: i64, last: i64) -> i64
     }
 }
 
-fn sheet_passed(sheet: Sheet) -> u64
-    ensures { result ≡ passed_of sheet }
+// The four counts of a sheet, which are 0 where it is refused.
+#[derive(Clone, Copy)]
+struct Counts {
+    passed: u64,
+    failed: u64,
+    silenced: u64,
+    none: u64,
+}
+
+fn counts_of(sheet: Sheet) -> Counts
+    ensures { result ≡ record { passed = passed_of sheet; failed = failed_of sheet; silenced = silenced_of sheet; none = none_of sheet } }
 {
     match sheet {
         Sheet::Counted {
             passed,
-            failed: _,
-            silent: _,
-            none: _,
-        } => passed as u64,
-        Sheet::Shape => 0,
-        Sheet::Query => 0,
-        Sheet::Leaf(_) => 0,
-        Sheet::Room(_) => 0,
-        Sheet::Twice(_) => 0,
-    }
-}
-
-fn sheet_failed(sheet: Sheet) -> u64
-    ensures { result ≡ failed_of sheet }
-{
-    match sheet {
-        Sheet::Counted {
-            passed: _,
             failed,
-            silent: _,
-            none: _,
-        } => failed as u64,
-        Sheet::Shape => 0,
-        Sheet::Query => 0,
-        Sheet::Leaf(_) => 0,
-        Sheet::Room(_) => 0,
-        Sheet::Twice(_) => 0,
-    }
-}
-
-fn sheet_silenced(sheet: Sheet) -> u64
-    ensures { result ≡ silenced_of sheet }
-{
-    match sheet {
-        Sheet::Counted {
-            passed: _,
-            failed: _,
             silent,
-            none: _,
-        } => silent as u64,
-        Sheet::Shape => 0,
-        Sheet::Query => 0,
-        Sheet::Leaf(_) => 0,
-        Sheet::Room(_) => 0,
-        Sheet::Twice(_) => 0,
-    }
-}
-
-fn sheet_none(sheet: Sheet) -> u64
-    ensures { result ≡ none_of sheet }
-{
-    match sheet {
-        Sheet::Counted {
-            passed: _,
-            failed: _,
-            silent: _,
             none,
-        } => none as u64,
-        Sheet::Shape => 0,
-        Sheet::Query => 0,
-        Sheet::Leaf(_) => 0,
-        Sheet::Room(_) => 0,
-        Sheet::Twice(_) => 0,
+        } => Counts {
+            passed: passed as u64,
+            failed: failed as u64,
+            silenced: silent as u64,
+            none: none as u64,
+        },
+        _ => Counts {
+            passed: 0,
+            failed: 0,
+            silenced: 0,
+            none: 0,
+        },
     }
 }
 
@@ -486,9 +281,10 @@ pub extern "C" fn fts4_verdict(
         silent_room,
     );
     *second = sheet_second(sheet, first, last);
-    *passed = sheet_passed(sheet);
-    *failed = sheet_failed(sheet);
-    *silenced = sheet_silenced(sheet);
-    *none = sheet_none(sheet);
-    sheet_number(sheet)
+    let counts = counts_of(sheet);
+    *passed = counts.passed;
+    *failed = counts.failed;
+    *silenced = counts.silenced;
+    *none = counts.none;
+    sheet.number()
 }

@@ -3,9 +3,8 @@
 // or `refused` with the two numbers; or `no leaf`.
 #![tactic(auto)]
 
-ghost use Rattle.std.specs.Prelude.{◌≤◌, length};
+ghost use Rattle.std.specs.Prelude.{◌≤◌, length, IfOk};
 
-use doclist::keys;
 use search::Answer;
 use std::fs;
 use std::io::{self, Read};
@@ -23,76 +22,40 @@ const LEAF_BUFFER: usize = 65537;
 // How many docids the result room holds.
 const ROOM: usize = 4096;
 
-// What was read: how many bytes, or that a read failed. An input cut short by a failure is never taken as a whole one.
-#[derive(Drop)]
-struct Input {
-    ok: bool,
-    size: usize,
-}
-
-// Reads until the buffer is full or the input ends.
-fn read_input(from: &mut impl Read, buf: &mut [u8]) -> Input
-    ensures { result.size ≤ length buf.old }
+// Reads until the buffer is full or the input ends: how many bytes. An input cut short by a failure is never taken as a whole one.
+fn read_full(from: &mut impl Read, buf: &mut [u8]) -> io::Result<usize>
+    ensures { IfOk result (λ n. n ≤ length buf.old) }
 {
-    let mut n: usize = 0;
+    let mut n = 0;
+    // Each read says how far it came: no loop over places.
     while n < buf.len() {
-        let Ok(more) = from.read(&mut buf[n..]) else {
-            return Input { ok: false, size: 0 };
-        };
+        let more = from.read(&mut buf[n..])?;
         if more == 0 {
             break;
         }
         n += more;
     }
-    Input { ok: true, size: n }
+    Ok(n)
 }
 
 // Reads the leaf's file.
-fn read_leaf(rt: &impl Files, buf: &mut [u8]) -> Input
-    ensures { result.size ≤ length buf.old }
+fn read_leaf(rt: &impl Files, buf: &mut [u8]) -> io::Result<usize>
+    ensures { IfOk result (λ n. n ≤ length buf.old) }
 {
-    let Ok(mut file) = fs::open(rt, "leaf0.bin") else {
-        return Input { ok: false, size: 0 };
-    };
-    read_input(&mut file, buf)
+    read_full(&mut fs::open(rt, "leaf0.bin")?, buf)
 }
 
-// A number and a line's end.
-fn line(rt: &impl Print, n: u64) -> io::Result<()> {
-    println!(rt; "{n}")
+fn refused(rt: &impl Print, answer: Answer) -> io::Result<()> {
+    println!(rt; "refused {} {}", answer.number(), answer.second())
 }
 
-fn refused(rt: &impl Print, number: u64, beside: usize) -> io::Result<()> {
-    print!(rt; "refused {number} ")?;
-    line(rt, beside as u64)
-}
-
-// A docid and a line's end.
-fn docid_line(rt: &impl Print, docid: i64) -> io::Result<()> {
-    let key = keys::key_of(docid);
-    if keys::ZERO_KEY <= key {
-        return line(rt, key - keys::ZERO_KEY);
-    }
-    print!(rt; "-")?;
-    line(rt, keys::ZERO_KEY - key)
-}
-
-// The first docids of the room, each on a line.
-fn list(rt: &impl Print, room: &[i64], n: usize) -> io::Result<()> {
-    let mut i: usize = 0;
-    while i < n {
-        if i < room.len() {
-            docid_line(rt, room[i])?;
-        }
-        i += 1;
+// The count, and the docids at the front of the room, each on a line.
+fn found(rt: &impl Print, room: &[i64], n: usize) -> io::Result<()> {
+    println!(rt; "docs {n}")?;
+    for docid in room.iter().take(n) {
+        println!(rt; "{docid}")?;
     }
     Ok(())
-}
-
-fn found(rt: &impl Print, room: &[i64], n: usize) -> io::Result<()> {
-    print!(rt; "docs ")?;
-    line(rt, n as u64)?;
-    list(rt, room, n)
 }
 
 fn answer(rt: &impl Print, leaf: &[u8], size: u32, query: &[u8]) -> io::Result<()> {
@@ -102,7 +65,7 @@ fn answer(rt: &impl Print, leaf: &[u8], size: u32, query: &[u8]) -> io::Result<(
     let levels = [0u32];
     let indexes = [0u32];
     let mut room = [0i64; ROOM];
-    match search::search(
+    let answer = search::search(
         b"nodesentoutcome",
         &name_ends,
         leaf,
@@ -111,36 +74,32 @@ fn answer(rt: &impl Print, leaf: &[u8], size: u32, query: &[u8]) -> io::Result<(
         &indexes,
         query,
         &mut room,
-    ) {
+    );
+    match answer {
         Answer::Found(n) => found(rt, &room, n),
-        Answer::Shape => refused(rt, 1, 0),
-        Answer::Query => refused(rt, 2, 0),
-        Answer::Leaf(i) => refused(rt, 3, i),
-        Answer::Room(n) => refused(rt, 4, n),
+        _ => refused(rt, answer),
     }
 }
 
-// The leaf's size comes first, then the query's. A query that couldn't be read is an empty one, which is refused as such.
+// The leaf's size comes first, then the query's.
 fn answer_sized(rt: &impl Print, leaf: &[u8], query: &[u8]) -> io::Result<()> {
     let size = leaf.len();
     if MAX_LEAF < size {
-        return refused(rt, 1, 0);
+        return refused(rt, Answer::Shape);
     }
     if MAX_QUERY < query.len() {
-        return refused(rt, 2, 0);
+        return refused(rt, Answer::Query);
     }
     answer(rt, leaf, size as u32, query)
 }
 
 fn main(rt: HostRuntime) -> io::Result<()> {
     let mut query = [0u8; QUERY_BUFFER];
-    let asked = read_input(&mut rt.reader(), &mut query);
+    // A query that couldn't be read is an empty one, which is refused as such.
+    let asked = read_full(&mut rt.reader(), &mut query).unwrap_or(0);
     let mut leaf = [0u8; LEAF_BUFFER];
-    let stored = read_leaf(&rt, &mut leaf);
-    if !stored.ok {
+    let Ok(stored) = read_leaf(&rt, &mut leaf) else {
         return println!(rt; "no leaf");
-    }
-    let n = stored.size;
-    let q = asked.size;
-    answer_sized(&rt, &leaf[0..n], &query[0..q])
+    };
+    answer_sized(&rt, &leaf[..stored], &query[..asked])
 }

@@ -17,35 +17,38 @@ use Rattle.varint.specs.Varint.{encode, read_at, StoredAt, max_varint}
 use Rattle.varint.specs.declared.Varint.TheVariants as varint
 use Rattle.varint.proofs.Laws.{varint_case, stored_at, reads, next_after, next_within}
 use Rattle.leaf.specs.Leaf.{sized}
-use Rattle.leaf.specs.Reading.{on_head, suffix_at, first_word, head_at}
+use Rattle.leaf.specs.Reading.{on_head, suffix_at, first_word, head, head_at}
 use Rattle.leaf.specs.Rest.{prefix_number}
 use Rattle.leaf.specs.declared.Head.{Head}
-use Rattle.leaf.specs.declared.Head.TheVariants.{Found, Refused}
+use Rattle.std.specs.Prelude.{Option, Some, None}
 
 -- ---- cases
 
-pub head_case {ℓ κ} : {X : Type ℓ} (P : X → Type κ) (r : X) (h : Head) (go : ℕ → ℕ → ℕ → ℕ → ℕ → X)
-    → ((p f n l x : ℕ) → h ≡ Found p f n l x → P (go p f n l x)) → (h ≡ Refused → P r) → P (on_head r h go)
-head_case P r (Found p from n l x) go f g = f p from n l x refl
-head_case P r Refused go f g = g refl
+pub head_case {ℓ κ} : {X : Type ℓ} (P : X → Type κ) (r : X) (h : Option Head) (go : ℕ → ℕ → ℕ → ℕ → ℕ → X)
+    → ((p f n l x : ℕ) → h ≡ head p f n l x → P (go p f n l x)) → (h ≡ None → P r) → P (on_head r h go)
+head_case P r (Some h) go f g = f h.prefix h.from h.size h.list h.next refl
+head_case P r None go f g = g refl
 
-pub not_found {ℓ} : {X : Type ℓ} {h : Head} {p f n l x : ℕ} → h ≡ Refused → h ≡ Found p f n l x → X
+pub not_found {ℓ} : {X : Type ℓ} {h : Option Head} {p f n l x : ℕ} → h ≡ None → h ≡ head p f n l x → X
 not_found e k = let z : ◌≡◌ {A = ℕ} 0 1 = cc in absurd (omega arith)
 
-pub found_prefix : {h : Head} {p f n l x p' f' n' l' x' : ℕ} → h ≡ Found p f n l x → h ≡ Found p' f' n' l' x' → p ≡ p'
-found_prefix e k = cc
+same_head : {h k : Head} → Some h ≡ Some k → h ≡ k
+same_head e = cc
 
-pub found_from : {h : Head} {p f n l x p' f' n' l' x' : ℕ} → h ≡ Found p f n l x → h ≡ Found p' f' n' l' x' → f ≡ f'
-found_from e k = cc
+pub found_prefix : {h : Option Head} {p f n l x p' f' n' l' x' : ℕ} → h ≡ head p f n l x → h ≡ head p' f' n' l' x' → p ≡ p'
+found_prefix e k = ap (λ (h : Head). h.prefix) (same_head (sym e ∙ k))
 
-pub found_size : {h : Head} {p f n l x p' f' n' l' x' : ℕ} → h ≡ Found p f n l x → h ≡ Found p' f' n' l' x' → n ≡ n'
-found_size e k = cc
+pub found_from : {h : Option Head} {p f n l x p' f' n' l' x' : ℕ} → h ≡ head p f n l x → h ≡ head p' f' n' l' x' → f ≡ f'
+found_from e k = ap (λ (h : Head). h.from) (same_head (sym e ∙ k))
 
-pub found_list : {h : Head} {p f n l x p' f' n' l' x' : ℕ} → h ≡ Found p f n l x → h ≡ Found p' f' n' l' x' → l ≡ l'
-found_list e k = cc
+pub found_size : {h : Option Head} {p f n l x p' f' n' l' x' : ℕ} → h ≡ head p f n l x → h ≡ head p' f' n' l' x' → n ≡ n'
+found_size e k = ap (λ (h : Head). h.size) (same_head (sym e ∙ k))
 
-pub found_next : {h : Head} {p f n l x p' f' n' l' x' : ℕ} → h ≡ Found p f n l x → h ≡ Found p' f' n' l' x' → x ≡ x'
-found_next e k = cc
+pub found_list : {h : Option Head} {p f n l x p' f' n' l' x' : ℕ} → h ≡ head p f n l x → h ≡ head p' f' n' l' x' → l ≡ l'
+found_list e k = ap (λ (h : Head). h.list) (same_head (sym e ∙ k))
+
+pub found_next : {h : Option Head} {p f n l x p' f' n' l' x' : ℕ} → h ≡ head p f n l x → h ≡ head p' f' n' l' x' → x ≡ x'
+found_next e k = ap (λ (h : Head). h.next) (same_head (sym e ∙ k))
 
 -- ---- what is found is stored
 
@@ -96,31 +99,31 @@ module _ (s : List ℕ) where
             ∙ sym (simp (append_assoc, lv, lm));
       }
 
-  suffix_sound : (p at q from size list next : ℕ) → suffix_at s p at ≡ Found q from size list next → (q ≡ p) × SuffixIs p at from size list next
+  suffix_sound : (p at q from size list next : ℕ) → suffix_at s p at ≡ head q from size list next → (q ≡ p) × SuffixIs p at from size list next
   suffix_sound p at q from size list next =
-      varint_case P Refused (read_at s at) _
+      varint_case P None (read_at s at) _
       (λ v f e1.
       pick_case P (eqb v 0) _ _ (λ _. not_found refl) λ h0.
       pick_case P (ltb max_word v) _ _ (λ _. not_found refl) λ h1.
       pick_case P (ltb (max_word - v) p) _ _ (λ _. not_found refl) λ h2.
       pick_case P (ltb (length s - f) v) _ _ (λ _. not_found refl) λ h3.
-      varint_case P Refused (read_at s (f + v)) _
+      varint_case P None (read_at s (f + v)) _
       (λ m l e2.
       pick_case P (ltb (length s - l) m) _ _ (λ _. not_found refl) λ h4.
       build v f m l e1 (eqb-false v 0 h0) (ltb-false max_word v h1) (ltb-false (max_word - v) p h2) (ltb-false (length s - f) v h3) e2 (ltb-false (length s - l) m h4))
       (λ _. not_found refl))
       (λ _. not_found refl)
     where
-      P : Head → Type 0
-      P x = x ≡ Found q from size list next → (q ≡ p) × SuffixIs p at from size list next
+      P : Option Head → Type 0
+      P x = x ≡ head q from size list next → (q ≡ p) × SuffixIs p at from size list next
 
       build : (v f m l : ℕ) → read_at s at ≡ varint.Value v f → (v ≡ 0 → ⊥) → v ≤ max_word → p ≤ max_word - v → v ≤ length s - f
-          → read_at s (f + v) ≡ varint.Value m l → m ≤ length s - l → P (Found p f v l (l + m))
+          → read_at s (f + v) ≡ varint.Value m l → m ≤ length s - l → P (head p f v l (l + m))
       build v f m l e1 h0 h1 h2 h3 e2 h4 e =
           let t = stored_suffix p at v f m l ((stored_at s at v f).0 e1) (omega arith) (omega arith) h3 ((stored_at s (f + v) m l).0 e2) h4 in
           (sym (found_prefix refl e), rw (found_next refl e, found_from refl e, found_size refl e, found_list refl e) at t)
 
-  pub head_sound : (at : ℕ) {prefix from size list next : ℕ} → head_at s at ≡ Found prefix from size list next → HeadIs s at prefix from size list next
+  pub head_sound : (at : ℕ) {prefix from size list next : ℕ} → head_at s at ≡ head prefix from size list next → HeadIs s at prefix from size list next
   head_sound at {prefix} {from} {size} {list} {next} =
       pick_case P (eqb at first_word) _ _
       (λ h e.
@@ -137,12 +140,12 @@ module _ (s : List ℕ) where
         bytes = rw h t.bytes;
       })
       (λ h.
-      varint_case P Refused (read_at s at) _
+      varint_case P None (read_at s at) _
       (λ v f e1. pick_case P (ltb max_word v) _ _ (λ _. not_found refl) λ _. build h v f e1)
       (λ _. not_found refl))
     where
-      P : Head → Type 0
-      P x = x ≡ Found prefix from size list next → HeadIs s at prefix from size list next
+      P : Option Head → Type 0
+      P x = x ≡ head prefix from size list next → HeadIs s at prefix from size list next
 
       build : eqb at first_word ≡ false → (v f : ℕ) → read_at s at ≡ varint.Value v f → P (suffix_at s v f)
       build h v f e1 e =
@@ -168,14 +171,14 @@ module _ (s : List ℕ) where
     pub from : ℕ
     pub list : ℕ
     pub next : ℕ
-    pub found : head_at s at ≡ Found prefix from (length suffix) list next
+    pub found : head_at s at ≡ head prefix from (length suffix) list next
     pub suffix_here : part s from (from + length suffix) ≡ suffix
     pub list_here : drop list s ≡ bytes ++ tail
     pub list_ends : next ≡ list + length bytes
 
   suffix_found : (p at : ℕ) (suffix bytes tail : List ℕ) → length s < 2 ^ 63 → 0 < length suffix → p + length suffix ≤ max_word
       → drop at s ≡ sized suffix ++ (sized bytes ++ tail)
-      → (f l : ℕ) × (suffix_at s p at ≡ Found p f (length suffix) l (l + length bytes))
+      → (f l : ℕ) × (suffix_at s p at ≡ head p f (length suffix) l (l + length bytes))
       × (part s f (f + length suffix) ≡ suffix) × (drop l s ≡ bytes ++ tail)
   suffix_found p at suffix bytes tail small h0 h1 e =
       let v : ℕ = length suffix in

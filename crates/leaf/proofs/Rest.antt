@@ -15,9 +15,9 @@ use Rattle.common.specs.Bounds.{max_word}
 use Rattle.varint.specs.Varint.{encode_in}
 use Rattle.doclist.specs.Doclist.{encode_list}
 use Rattle.leaf.specs.Leaf.{Term, WellFormed, shared, encode_terms, encode_leaf}
-use Rattle.leaf.specs.Reading.{first_word, head_at, joins_of}
+use Rattle.leaf.specs.Reading.{first_word, head, head_at, joins_of}
 use Rattle.leaf.specs.Rest.{rest_bytes, RestIs}
-use Rattle.leaf.specs.declared.Head.TheVariants.{Found, Refused}
+use Rattle.std.specs.Prelude.{None}
 use Rattle.leaf.proofs.Words.{is_joins, parted}
 use Rattle.leaf.proofs.Heads.{found_prefix, found_from, found_size, found_list, found_next, not_found, head_sound, HeadHere, head_found}
 
@@ -59,7 +59,7 @@ module _ (count : ℕ) (s : List ℕ) (small : length s < 2 ^ 63) where
         (r.bytes ∙ simp append_assoc)
 
     -- a term is found there
-    pub head_there : (p f n l x : ℕ) × (head_at s at ≡ Found p f n l x)
+    pub head_there : (p f n l x : ℕ) × (head_at s at ≡ head p f n l x)
     head_there = (shared before t.word, here.from, length (drop (shared before t.word) t.word), here.list, here.next, here.found)
 
     meets_here : Meets count s at before t ts tail (shared before t.word) here.from (length (drop (shared before t.word) t.word)) here.list here.next
@@ -91,12 +91,12 @@ module _ (count : ℕ) (s : List ℕ) (small : length s < 2 ^ 63) where
         }
 
     -- and whatever is found there is it
-    pub head_complete : {p f n l x : ℕ} → head_at s at ≡ Found p f n l x → Meets count s at before t ts tail p f n l x
+    pub head_complete : {p f n l x : ℕ} → head_at s at ≡ head p f n l x → Meets count s at before t ts tail p f n l x
     head_complete e =
         let h = here.found in
         rw (found_next h e, found_list h e, found_size h e, found_from h e, found_prefix h e) at meets_here
 
-    pub head_not_refused {ℓ} : {X : Type ℓ} → head_at s at ≡ Refused → X
+    pub head_not_refused {ℓ} : {X : Type ℓ} → head_at s at ≡ None → X
     head_not_refused e = not_found e here.found
 
     -- and it takes some bytes

@@ -23,9 +23,9 @@ use Rattle.doclist.specs.declared.ListCheck.{ListCheck}
 use Rattle.doclist.specs.declared.ListCheck.TheVariants as list-check
 use Rattle.doclist.proofs.Law.{list_law}
 use Rattle.leaf.specs.Leaf.{Term, Terms, sized}
-use Rattle.leaf.specs.Reading.{on_list, first_word, head_at, joins_of, walk_from, front_of, walk_of}
+use Rattle.leaf.specs.Reading.{on_list, first_word, head, head_at, joins_of, walk_from, front_of, walk_of}
 use Rattle.leaf.specs.Rest.{prefix_number, rest_bytes, RestIs}
-use Rattle.leaf.specs.declared.Head.TheVariants.{Found, Refused}
+use Rattle.std.specs.Prelude.{None}
 use Rattle.leaf.specs.declared.Sound.{Sound}
 use Rattle.leaf.proofs.Words.{joins_is, joins_le, Joined, joined}
 use Rattle.leaf.proofs.Heads.{head_case, HeadIs, head_sound}
@@ -43,12 +43,12 @@ module _ (count : ℕ) (s : List ℕ) (i : ℕ) (before : List ℕ) (words : ℕ
   walk_end zero h = refl
   walk_end (suc k) h = simp (le-ltb _ _ h)
 
-  pub no_head : (k : ℕ) → length s ≤ i + k → i < length s → head_at s i ≡ Refused → walk_from k count s i before words ≡ stop words i
+  pub no_head : (k : ℕ) → length s ≤ i + k → i < length s → head_at s i ≡ None → walk_from k count s i before words ≡ stop words i
   unfolding walk_from
   no_head zero f h e = absurd (omega arith)
   no_head (suc k) f h e = simp (lt-ltb _ _ h, e)
 
-  module _ {p f n l x : ℕ} (h : i < length s) (e : head_at s i ≡ Found p f n l x) where
+  module _ {p f n l x : ℕ} (h : i < length s) (e : head_at s i ≡ head p f n l x) where
     at_head : (k : ℕ) → walk_from (suc k) count s i before words
         ≡ pick (joins_of before p (get_or s f 0))
         (on_list (stop words i) (check_of count (part s l x)) (walk_from k count s x (take p before ++ part s f (f + n)) (words + 1)))
@@ -170,7 +170,7 @@ module _ (count : ℕ) (s : List ℕ) (small : length s < 2 ^ 63) where
       let h = head_there count s small r in
       step h.0 h.1 h.2 h.3 h.4 h.5 (head_complete count s small r h.5) (walk_passes ts)
     where
-      step : (p fr n l x : ℕ) → head_at s at ≡ Found p fr n l x → Meets count s at before t ts tail p fr n l x
+      step : (p fr n l x : ℕ) → head_at s at ≡ head p fr n l x → Meets count s at before t ts tail p fr n l x
           → ((k at : ℕ) (before : List ℕ) (words : ℕ) (tail : List ℕ) → length s ≤ at + k → RestIs count s at before ts tail → Passed k at before words ts tail)
           → Passed k at before words (t ∷ ts) tail
       step p fr n l x e m ih =
@@ -207,7 +207,7 @@ walking_start count s height first e z =
     record { fuel = length s; enough = omega arith; goes_on = simp (e, eq-eqb _ _ z); few = omega arith }
 
 pub walking_more : {count : ℕ} {s : List ℕ} {i : ℕ} (len : ℕ) (d : List ℕ) {words p f n l x : ℕ} (w : List ℕ) → Walking count s i (take len d) words → len ≤ length d
-    → i < length s → head_at s i ≡ Found p f n l x → joins_of (take len d) p (get_or s f 0) ≡ true → check_of count (part s l x) ≡ list-check.Accepted
+    → i < length s → head_at s i ≡ head p f n l x → joins_of (take len d) p (get_or s f 0) ≡ true → check_of count (part s l x) ≡ list-check.Accepted
     → w ≡ paste d p (part s f (f + n)) (length (part s f (f + n))) → Walking count s x (take (p + n) w) (words + 1)
 walking_more {count} {s} {i} len d {words} {p} {f} {n} {l} {x} w g ld h e j a q =
     let t = head_sound s i e in

@@ -1,6 +1,6 @@
 -- What the functions of this crate compute, as they do it: a walk over the words of a leaf that knows how many were
 -- sound and where they ended. The laws tie it to the content of Leaf.
-use Rattle.std.specs.Prelude.{ℕ, zero, suc, ◌+◌, ◌-◌, Bool, List, [], ◌++◌, length, get_or, take, ltb, leb, eqb}
+use Rattle.std.specs.Prelude.{ℕ, zero, suc, ◌+◌, ◌-◌, Bool, List, [], ◌++◌, length, get_or, take, ltb, leb, eqb, Option, Some, None}
 use Rattle.std.proofs.Math.Seq.{paste}
 use Rattle.common.specs.Pick.{pick, both}
 use Rattle.common.specs.Bytes.{part}
@@ -10,39 +10,42 @@ use Rattle.doclist.specs.Checking as doclist
 use Rattle.doclist.specs.declared.ListCheck.{ListCheck}
 use Rattle.doclist.specs.declared.ListCheck.TheVariants as list-check
 use Rattle.leaf.specs.declared.Head.{Head}
-use Rattle.leaf.specs.declared.Head.TheVariants.{Found, Refused}
 use Rattle.leaf.specs.declared.Sound.{Sound}
 
 -- ---- one word
 
-abbrev pub on_head {ℓ} : {X : Type ℓ} → X → Head → (ℕ → ℕ → ℕ → ℕ → ℕ → X) → X
-on_head r (Found prefix from size list next) go = go prefix from size list next
-on_head r Refused go = r
+-- what was found at a word's place
+abbrev pub head : ℕ → ℕ → ℕ → ℕ → ℕ → Option Head
+head prefix from size list next = Some (record { prefix = prefix; from = from; size = size; list = list; next = next })
+
+abbrev pub on_head {ℓ} : {X : Type ℓ} → X → Option Head → (ℕ → ℕ → ℕ → ℕ → ℕ → X) → X
+on_head r (Some h) go = go h.prefix h.from h.size h.list h.next
+on_head r None go = r
 
 abbrev pub on_list {ℓ} : {X : Type ℓ} → X → ListCheck → X → X
 on_list r list-check.Accepted x = x
 on_list r list-check.Refused x = r
 
 -- the list's length, at `to`, and the list: all inside
-abbrev pub list_at : List ℕ → ℕ → ℕ → ℕ → ℕ → Head
+abbrev pub list_at : List ℕ → ℕ → ℕ → ℕ → ℕ → Option Head
 list_at s prefix from size to =
-    on_varint Refused (read_at s to) (λ bytes list. pick (ltb (length s - list) bytes) Refused (Found prefix from size list (list + bytes)))
+    on_varint None (read_at s to) (λ bytes list. pick (ltb (length s - list) bytes) None (head prefix from size list (list + bytes)))
 
 -- the suffix's length, at `at`, and the suffix: at least one byte, inside, and the word not too long
-abbrev pub suffix_at : List ℕ → ℕ → ℕ → Head
+abbrev pub suffix_at : List ℕ → ℕ → ℕ → Option Head
 suffix_at s prefix at =
-    on_varint Refused (read_at s at) (λ size from.
-    pick (eqb size 0) Refused
-    (pick (ltb max_word size) Refused
-    (pick (ltb (max_word - size) prefix) Refused
-    (pick (ltb (length s - from) size) Refused (list_at s prefix from size (from + size))))))
+    on_varint None (read_at s at) (λ size from.
+    pick (eqb size 0) None
+    (pick (ltb max_word size) None
+    (pick (ltb (max_word - size) prefix) None
+    (pick (ltb (length s - from) size) None (list_at s prefix from size (from + size))))))
 
 -- the first word stands after the height, which takes one byte; it has no prefix
 abbrev pub first_word : ℕ
 first_word = 1
 
-abbrev pub head_at : List ℕ → ℕ → Head
-head_at s at = pick (eqb at first_word) (suffix_at s 0 at) (on_varint Refused (read_at s at) (λ prefix next. pick (ltb max_word prefix) Refused (suffix_at s prefix next)))
+abbrev pub head_at : List ℕ → ℕ → Option Head
+head_at s at = pick (eqb at first_word) (suffix_at s 0 at) (on_varint None (read_at s at) (λ prefix next. pick (ltb max_word prefix) None (suffix_at s prefix next)))
 
 -- a word's room once a suffix was put after its first `p` bytes; where it does not fit the room stays
 abbrev pub with_suffix : List ℕ → ℕ → List ℕ → List ℕ

@@ -11,7 +11,7 @@ ghost use Rattle.std.specs.Prelude.{◌≡◌, ◌↔◌, ◌+◌, ◌≤◌, le
 ghost use Rattle.std.proofs.Math.Seq.{paste};
 ghost use Rattle.leaf.specs.Leaf.{SoundFront, is_before};
 ghost use Rattle.leaf.specs.Reading.{list_at, suffix_at, head_at, joins_of, with_suffix, front_of, walk_of};
-ghost use Rattle.leaf.specs.Answers.{CheckIs, check_leaf};
+ghost use Rattle.leaf.specs.Answers.{check_numbers, CheckIs, check_leaf};
 
 use doclist::ListCheck;
 use varint::Varint;
@@ -19,38 +19,57 @@ use varint::Varint;
 // The first word stands after the height.
 pub const FIRST_WORD: usize = 1;
 
-// What stands at a word's place.
+// What stands at a word's place: the word shares `prefix` bytes with the one before; its suffix is `size` bytes from `from`; its
+// posting list goes from `list` up to `next`, where the next word begins.
 #[derive(Drop)]
-pub enum Head {
-    // The word shares `prefix` bytes with the one before; its suffix is `size` bytes from `from`; its posting list
-    // goes from `list` up to `next`, where the next word begins.
-    Found {
-        prefix: usize,
-        from: usize,
-        size: usize,
-        list: usize,
-        next: usize,
-    },
-    Refused,
+pub struct Head {
+    pub prefix: usize,
+    pub from: usize,
+    pub size: usize,
+    pub list: usize,
+    pub next: usize,
 }
 
-// The sound front of a leaf: how many words are sound, and where they end; both 0 where none is.
+// The sound front of a leaf: how many words are sound, and where they end; both 0 where none is. No Option: the definition `SoundFront` speaks of
+// both numbers, which its field for no sound word gives as 0.
 #[derive(Drop)]
 pub struct Sound {
     pub words: usize,
     pub end: usize,
 }
 
-// What checking one leaf answers.
-#[derive(Drop)]
+// What checking one leaf answers. An own enum: document 01 gives each case its numbers (`check_numbers`).
+#[derive(Clone, Copy)]
 pub enum LeafCheck {
     Accepted,
     Shape,
     Broken,
 }
 
+impl LeafCheck {
+    // Its number: 0, 1 or 3.
+    pub fn number(self) -> u32
+        ensures { result ≡ (check_numbers self).number }
+    {
+        match self {
+            LeafCheck::Accepted => 0,
+            LeafCheck::Shape => 1,
+            LeafCheck::Broken => 3,
+        }
+    }
+
+    // The number beside it.
+    pub fn second(self) -> usize
+        ensures { result ≡ (check_numbers self).second }
+    {
+        match self {
+            LeafCheck::Accepted | LeafCheck::Shape | LeafCheck::Broken => 0,
+        }
+    }
+}
+
 // The list's length, at `to`, and the list.
-fn list_at(s: &[u8], prefix: usize, from: usize, size: usize, to: usize) -> Head
+fn list_at(s: &[u8], prefix: usize, from: usize, size: usize, to: usize) -> Option<Head>
     ensures { result ≡ list_at s.now prefix from size to }
 {
     let Varint::Value {
@@ -58,56 +77,56 @@ fn list_at(s: &[u8], prefix: usize, from: usize, size: usize, to: usize) -> Head
         next: list,
     } = varint::read(s, to)
     else {
-        return Head::Refused;
+        return None;
     };
     let left = (s.len() - list) as u64;
     if left < bytes {
-        return Head::Refused;
+        return None;
     }
-    Head::Found {
+    Some(Head {
         prefix,
         from,
         size,
         list,
         next: list + (bytes as usize),
-    }
+    })
 }
 
 // The suffix's length, at `at`, and the suffix.
-fn suffix_at(s: &[u8], prefix: usize, at: usize) -> Head
+fn suffix_at(s: &[u8], prefix: usize, at: usize) -> Option<Head>
     ensures { result ≡ suffix_at s.now prefix at }
 {
     let Varint::Value { value, next: from } = varint::read(s, at) else {
-        return Head::Refused;
+        return None;
     };
     if value == 0 {
-        return Head::Refused;
+        return None;
     }
     if (common::MAX_WORD as u64) < value {
-        return Head::Refused;
+        return None;
     }
     let size = value as usize;
     if common::MAX_WORD - size < prefix {
-        return Head::Refused;
+        return None;
     }
     if s.len() - from < size {
-        return Head::Refused;
+        return None;
     }
     list_at(s, prefix, from, size, from + size)
 }
 
 // The word that begins at a place.
-pub fn head_at(s: &[u8], at: usize) -> Head
+pub fn head_at(s: &[u8], at: usize) -> Option<Head>
     ensures { result ≡ head_at s.now at }
 {
     if at == FIRST_WORD {
         return suffix_at(s, 0, at);
     }
     let Varint::Value { value, next } = varint::read(s, at) else {
-        return Head::Refused;
+        return None;
     };
     if (common::MAX_WORD as u64) < value {
-        return Head::Refused;
+        return None;
     }
     suffix_at(s, value as usize, next)
 }
@@ -123,24 +142,11 @@ fn joins(word: &[u8; 64], len: usize, p: usize, b: u8) -> bool
     p == len
 }
 
-// Whether a word comes before another by byte comparison; a proper prefix comes first.
+// Whether a word comes before another by byte comparison; a proper prefix comes first. Its contract says in this repository's definitions what `<` answers.
 pub fn is_before(a: &[u8], b: &[u8]) -> bool
     ensures { result ≡ is_before a.now b.now }
 {
-    let mut i: usize = 0;
-    while i < a.len() {
-        if b.len() <= i {
-            return false;
-        }
-        if a[i] < b[i] {
-            return true;
-        }
-        if b[i] < a[i] {
-            return false;
-        }
-        i += 1;
-    }
-    i < b.len()
+    a < b
 }
 
 // Puts a suffix after the first `p` bytes of a word's room. Where it does not fit, the room stays as it is.
@@ -153,11 +159,8 @@ pub fn put_suffix(word: &mut [u8], p: usize, suffix: &[u8])
     if word.len() - suffix.len() < p {
         return;
     }
-    let mut j = 0;
-    while j < suffix.len() {
-        word[p + j] = suffix[j];
-        j += 1;
-    }
+    let end = p + suffix.len();
+    word[p..end].copy_from_slice(suffix);
 }
 
 // The sound front, where the walk ended: with no sound word it is empty.
@@ -190,27 +193,20 @@ pub fn walk(s: &[u8], columns: u64) -> Sound
     let mut words: usize = 0;
     let mut i = first;
     while i < s.len() {
-        let Head::Found {
-            prefix,
-            from,
-            size,
-            list,
-            next,
-        } = head_at(s, i)
-        else {
+        let Some(head) = head_at(s, i) else {
             return front(Sound { words, end: i });
         };
-        if !joins(&word, len, prefix, s[from]) {
+        if !joins(&word, len, head.prefix, s[head.from]) {
             return front(Sound { words, end: i });
         }
-        let ListCheck::Accepted = doclist::check(&s[list..next], columns) else {
+        let ListCheck::Accepted = doclist::check(&s[head.list..head.next], columns) else {
             return front(Sound { words, end: i });
         };
-        let to = from + size;
-        put_suffix(&mut word, prefix, &s[from..to]);
-        len = prefix + size;
+        let to = head.from + head.size;
+        put_suffix(&mut word, head.prefix, &s[head.from..to]);
+        len = head.prefix + head.size;
         words += 1;
-        i = next;
+        i = head.next;
     }
     front(Sound { words, end: i })
 }

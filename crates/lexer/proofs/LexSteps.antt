@@ -17,15 +17,14 @@ use Rattle.common.proofs.Parts.{part_all}
 use Rattle.common.specs.Bounds.{max_columns}
 use Rattle.tokenizer.specs.Word.{is_digit, places}
 use Rattle.offsets.specs.Names.{is_name_byte, column_of}
-use Rattle.offsets.specs.declared.Column.{Column}
-use Rattle.offsets.specs.declared.Column.TheVariants.{At, Unknown}
-use Rattle.lexer.specs.Token.{any_column, only_column, bare, written, lparen, rparen, AND, OR, NOT, NEAR, kind_of, operand_kind, end_kind}
+use Rattle.lexer.specs.Token.{any_column, only_column, bare, written, lparen, rparen, AND, OR, NOT, NEAR, kind_of, kind_number, operand_kind}
 use Rattle.lexer.specs.Tokens.{open_byte, close_byte, quote_byte, colon_byte, is_space, is_run_byte, is_inner, each, bytes_and, bytes_or, bytes_not, bytes_near, decimal}
 use Rattle.lexer.specs.Lexing.{NextToken, done, token, wrong, phrase_of, is_stem, is_near_written, in_column, column_run_token, Operator, operator, no_operator, operator_of, word_next, operator_or, run_next, quote_next, next_token}
 use Rattle.lexer.specs.Looking.{after_space, plain_sign, sign_of, ahead, ahead_from, look_at, NextOperand, none_next, operand_in, Takes}
 use Rattle.lexer.specs.declared.Words.{Words}
+use Rattle.lexer.specs.declared.Kind.TheVariants as kind
 use Rattle.lexer.specs.declared.Sign.{Sign}
-use Rattle.lexer.specs.declared.Taken.{Taken}
+use Rattle.std.specs.Prelude.{Option, None, Some}
 use Rattle.lexer.proofs.Runs.{near_read}
 
 -- ---- a quoted phrase
@@ -69,17 +68,17 @@ module _ (names : List (List ℕ)) (s : List ℕ) (n : ℕ) (measured : n ≡ sp
     pub column_bare : is_stem text ≡ false → wrong ≡ column_run_token names s
     column_bare e = ap (λ b. pick b (in_column (column_of names (take n s)) text (length s)) wrong) (sym e) ∙ column_named
 
-    module _ (stem : is_stem text ≡ true) (x : Column) (told : x ≡ column_of names (take n s)) where
+    module _ (stem : is_stem text ≡ true) (x : Option ℕ) (told : x ≡ column_of names (take n s)) where
       column_worded : in_column x text (length s) ≡ column_run_token names s
       column_worded =
           ap (λ y. in_column y text (length s)) told
           ∙ ap (λ b. pick b (in_column (column_of names (take n s)) text (length s)) wrong) (sym stem)
           ∙ column_named
 
-      pub column_unknown : x ≡ Unknown → wrong ≡ column_run_token names s
+      pub column_unknown : x ≡ None → wrong ≡ column_run_token names s
       column_unknown e = ap (λ y. in_column y text (length s)) (sym e) ∙ column_worded
 
-      module _ (c : ℕ) (is : x ≡ At c) where
+      module _ (c : ℕ) (is : x ≡ Some c) where
         column_known : pick (ltb c max_columns) (token (phrase_of text (only_column c)) (length s)) wrong ≡ column_run_token names s
         column_known = ap (λ y. in_column y text (length s)) (sym is) ∙ column_worded
 
@@ -148,7 +147,7 @@ plain s =
 
 module _ (names : List (List ℕ)) (s : List ℕ) (o : Sign) (told : o ≡ sign_of (operator_of s)) where
   -- a run that is an operator
-  pub operator_run : (o.kind ≡ operand_kind → ⊥) → none_next ≡ operand_in (run_next names s)
+  pub operator_run : (o.kind ≡ kind.Operand → ⊥) → none_next ≡ operand_in (run_next names s)
   unfolding run_next
   operator_run some = found (operator_of s) (plain s) told
     where
@@ -156,14 +155,14 @@ module _ (names : List (List ℕ)) (s : List ℕ) (o : Sign) (told : o ≡ sign_
       found (operator t) p e = sym (p.1 (length s))
       found no_operator p e = absurd (some (ap (λ q. q.kind) e))
 
-  module _ (other : o.kind ≡ operand_kind) where
+  module _ (other : o.kind ≡ kind.Operand) where
     -- and any other
     word_run : word_next names s ≡ run_next names s
     unfolding run_next
     word_run = found (operator_of s) (plain s) told
       where
         found : (x : Operator) → Plain x → o ≡ sign_of x → word_next names s ≡ operator_or x (length s) (word_next names s)
-        found (operator t) p e = absurd (p.0 (ap (λ q. q.kind) (sym e) ∙ other))
+        found (operator t) p e = absurd (p.0 (ap kind_number (ap (λ q. q.kind) (sym e) ∙ other)))
         found no_operator p e = refl
 
     pub run_word : is_stem s ≡ true → token (phrase_of s any_column) (length s) ≡ run_next names s
@@ -236,23 +235,23 @@ module _ (s : List ℕ) (at from : ℕ) (place : from ≡ after_space s at) wher
   no_space h = subst (λ i. is_space (get_or s i 0) ≡ false) (sym place) (past_stops is_space s at (omega arith))
 
   module _ (sign : Sign) where
-    pub ahead_none : length s ≤ from → sign ≡ plain_sign end_kind → ahead sign from ≡ look_at s at
+    pub ahead_none : length s ≤ from → sign ≡ plain_sign kind.End → ahead sign from ≡ look_at s at
     unfolding ahead_from
     ahead_none h told = rw (told, ← place, drop_of_length-le s h)
 
     module _ (inside : from < length s) where
-      pub ahead_open : get_or s from 0 ≡ open_byte → sign ≡ plain_sign (kind_of lparen) → ahead sign (from + 1) ≡ look_at s at
+      pub ahead_open : get_or s from 0 ≡ open_byte → sign ≡ plain_sign kind.LeftParen → ahead sign (from + 1) ≡ look_at s at
       unfolding ahead_from
       ahead_open e told = rw (told, ← place, drop-cons s from 0 inside, eq-eqb (get_or s from 0) open_byte e)
 
       module _ (open-byte : get_or s from 0 ≡ open_byte → ⊥) where
-        pub ahead_close : get_or s from 0 ≡ close_byte → sign ≡ plain_sign (kind_of rparen) → ahead sign (from + 1) ≡ look_at s at
+        pub ahead_close : get_or s from 0 ≡ close_byte → sign ≡ plain_sign kind.RightParen → ahead sign (from + 1) ≡ look_at s at
         unfolding ahead_from
         ahead_close e told =
             rw (told, ← place, drop-cons s from 0 inside, ne_eqb (get_or s from 0) open_byte open-byte, eq-eqb (get_or s from 0) close_byte e)
 
         module _ (close-byte : get_or s from 0 ≡ close_byte → ⊥) where
-          pub ahead_quote : get_or s from 0 ≡ quote_byte → sign ≡ plain_sign operand_kind → ahead sign (from + 1) ≡ look_at s at
+          pub ahead_quote : get_or s from 0 ≡ quote_byte → sign ≡ plain_sign kind.Operand → ahead sign (from + 1) ≡ look_at s at
           unfolding ahead_from
           ahead_quote e told =
               rw (
@@ -279,7 +278,7 @@ module _ (s : List ℕ) (at from : ℕ) (place : from ≡ after_space s at) wher
                   ne_eqb (get_or s from 0) quote_byte quote-byte,
                 )
 
-  pub takes_next : (names : List (List ℕ)) (w : Words) (tie distance : ℕ) (r : Taken) (after : Words) {x : NextToken}
+  pub takes_next : (names : List (List ℕ)) (w : Words) (tie distance : ℕ) (r : Option ℕ) (after : Words) {x : NextToken}
       → x ≡ next_token names (drop from s)
       → Takes w from tie distance (operand_in x) r after
       → Takes w (after_space s at) tie distance (operand_in (next_token names (drop (after_space s at) s))) r after
@@ -289,8 +288,5 @@ module _ (s : List ℕ) (at from : ℕ) (place : from ≡ after_space s at) wher
 
 -- ---- where no operand stands
 
-pub takes_nothing : (words : ℕ → Words) (count from tie distance : ℕ) (r : Taken) → r ≡ record { ok = false; next = 0; count = count }
-    → {x : NextOperand} → none_next ≡ x → Takes (words count) from tie distance x r (words r.count)
-takes_nothing words count from tie distance r told e =
-    subst (λ y. Takes (words count) from tie distance y r (words r.count)) e
-    (ap (λ q. q.ok) told, ap (λ q. q.next) told, ap (λ q. words q.count) told)
+pub takes_nothing : (w : Words) (from tie distance : ℕ) {x : NextOperand} → none_next ≡ x → Takes w from tie distance x None w
+takes_nothing w from tie distance e = subst (λ y. Takes w from tie distance y None w) e (refl, refl)

@@ -15,16 +15,15 @@ use Rattle.common.proofs.Cases.{bool_case, pick_case, either_false}
 use Rattle.common.proofs.Runs.{span_most}
 use Rattle.tokenizer.specs.Word.{places}
 use Rattle.offsets.specs.Names.{is_name_byte, column_of}
-use Rattle.offsets.specs.declared.Column.{Column}
-use Rattle.offsets.specs.declared.Column.TheVariants.{At, Unknown}
-use Rattle.lexer.specs.Token.{Phrase, Distance, any_column, only_column, Token, lparen, rparen, AND, OR, NOT, NEAR, operand, kind_of, operand_kind, end_kind, front_kind, after_front, nears, tie_number, tie_distance}
+use Rattle.lexer.specs.Token.{Phrase, Distance, any_column, only_column, Token, lparen, rparen, AND, OR, NOT, NEAR, operand, kind_of, kind_number, operand_kind, end_kind, front_kind, after_front, nears, tie_number, tie_distance}
 use Rattle.lexer.specs.Tokens.{open_byte, close_byte, quote_byte, colon_byte, is_space, is_run_byte, is_inner, stops}
 use Rattle.lexer.specs.Lexing.{NextToken, done, blank, token, wrong, phrase_of, is_stem, in_column, column_run_token, Operator, operator, no_operator, operator_of, word_next, operator_or, run_next, quote_next, next_token, Lexing, tokens, refused, prepend, and_then, lex_in, lex_of}
 use Rattle.lexer.specs.Looking.{after_space, tie_after, distance_after, plain_sign, sign_of, ahead, ahead_from, look_at, LooksAt, NextOperand, operand_next, none_next, operand_in, Takes, TakesAt}
 use Rattle.lexer.specs.Filling.{push_words, phrase_entries}
 use Rattle.lexer.specs.declared.Ahead.{Ahead}
-use Rattle.lexer.specs.declared.Taken.{Taken}
+use Rattle.std.specs.Prelude.{Option, None, Some}
 use Rattle.lexer.specs.declared.Words.{Words}
+use Rattle.lexer.specs.declared.Kind.TheVariants as kind
 use Rattle.lexer.proofs.Stretches.{span_rest, stretch_front}
 use Rattle.lexer.proofs.Runs.{RunIs, run_is}
 use Rattle.lexer.proofs.TokenLaws.{found_space, lex_sound, lex_complete, tokens_law}
@@ -105,15 +104,15 @@ module _ (names : List (List ℕ)) where
 -- ---- what `look` says of what stands next
 
 abbrev Ahead_is : ℕ → Ahead → NextToken → Type 0
-Ahead_is from a done = a.kind ≡ end_kind
+Ahead_is from a done = kind_number a.kind ≡ end_kind
 Ahead_is from a blank = ⊥
-Ahead_is from a (token t n) = (a.kind ≡ kind_of t) × (a.tie ≡ tie_after t) × (a.distance ≡ distance_after t) × ((kind_of t ≡ operand_kind → ⊥) → a.next ≡ from + n)
-Ahead_is from a wrong = a.kind ≡ operand_kind
+Ahead_is from a (token t n) = (kind_number a.kind ≡ kind_of t) × (a.tie ≡ tie_after t) × (a.distance ≡ distance_after t) × ((kind_of t ≡ operand_kind → ⊥) → a.next ≡ from + n)
+Ahead_is from a wrong = kind_number a.kind ≡ operand_kind
 
 -- a quote or a run that is no operator
 module _ (from next : ℕ) where
   abbrev Phrasal : NextToken → Type 0
-  Phrasal x = Ahead_is from (ahead (plain_sign operand_kind) next) x
+  Phrasal x = Ahead_is from (ahead (plain_sign kind.Operand) next) x
 
   is_phrase : (text : List ℕ) (columns n : ℕ) → Phrasal (token (phrase_of text columns) n)
   is_phrase text columns n = (refl, refl, refl, λ h. absurd (h refl))
@@ -127,9 +126,9 @@ module _ (from next : ℕ) where
       (λ _. refl))
       (λ _. refl)
 
-  column_is : (c : Column) (text : List ℕ) (size : ℕ) → Phrasal (in_column c text size)
-  column_is (At c) text size = pick_case Phrasal (ltb c max_columns) (token (phrase_of text (only_column c)) size) wrong (λ _. is_phrase text (only_column c) size) (λ _. refl)
-  column_is Unknown text size = refl
+  column_is : (c : Option ℕ) (text : List ℕ) (size : ℕ) → Phrasal (in_column c text size)
+  column_is (Some c) text size = pick_case Phrasal (ltb c max_columns) (token (phrase_of text (only_column c)) size) wrong (λ _. is_phrase text (only_column c) size) (λ _. refl)
+  column_is None text size = refl
 
   column_run_is : (names : List (List ℕ)) (r : List ℕ) → Phrasal (column_run_token names r)
   unfolding column_run_token
@@ -224,16 +223,16 @@ module _ (names : List (List ℕ)) (s : List ℕ) (at : ℕ) where
 
   -- ---- what comes next
 
-  pub look_front : (ts : List Token) → lex_from ≡ tokens ts → (look_at s at).kind ≡ front_kind ts
+  pub look_front : (ts : List Token) → lex_from ≡ tokens ts → kind_number (look_at s at).kind ≡ front_kind ts
   look_front ts e = go next look_is (sym lex_at ∙ e)
     where
-      go : (x : NextToken) → Ahead_is (after_space s at) (look_at s at) x → and_then x (λ n. lex_of names (drop (after_space s at + n) s)) ≡ tokens ts → (look_at s at).kind ≡ front_kind ts
+      go : (x : NextToken) → Ahead_is (after_space s at) (look_at s at) x → and_then x (λ n. lex_of names (drop (after_space s at + n) s)) ≡ tokens ts → kind_number (look_at s at).kind ≡ front_kind ts
       go done i h = let z : [] ≡ ts = cc in i ∙ ap front_kind z
       go blank i h = absurd i
       go (token t n) i h = i.0 ∙ sym (ap front_kind (prepended t (lex_of names (drop (after_space s at + n) s)) ts h).0)
       go wrong i h = let z : ◌≡◌ {A = ℕ} 0 1 = cc in absurd (omega arith)
 
-  pub look_end : (look_at s at).kind ≡ end_kind → lex_from ≡ tokens []
+  pub look_end : kind_number (look_at s at).kind ≡ end_kind → lex_from ≡ tokens []
   look_end k = lex_at ∙ go next look_is
     where
       go : (x : NextToken) → Ahead_is (after_space s at) (look_at s at) x → and_then x (λ n. lex_of names (drop (after_space s at + n) s)) ≡ tokens []
@@ -243,7 +242,7 @@ module _ (names : List (List ℕ)) (s : List ℕ) (at : ℕ) where
       go wrong i = absurd (omega arith)
 
   -- no operand: a parenthesis or an operator
-  module _ (k : (look_at s at).kind < operand_kind) where
+  module _ (k : kind_number (look_at s at).kind < operand_kind) where
     look_plain : (t : Token) × (n : ℕ) × (next ≡ token t n) × ((look_at s at).tie ≡ tie_after t) × ((look_at s at).distance ≡ distance_after t) × ((look_at s at).next ≡ after_space s at + n)
     look_plain = go next refl look_is
       where
@@ -326,13 +325,13 @@ look_means s at =
       ties = λ names d ts h.
           let e = (tokens_law names (drop at s) (NEAR d ∷ ts)).0 h in
           look_ties names s at (omega (arith, look_front names s at (NEAR d ∷ ts) e)) ts d e;
-      end = λ names k. (tokens_law names (drop at s) []).1 (look_end names s at k);
+      end = λ names k. (tokens_law names (drop at s) []).1 (look_end names s at (ap kind_number k));
     }
 
 pub look_answers : (s : List ℕ) (at : ℕ) {r : Ahead} → r ≡ look_at s at → (r ≡ look_at s at) × LooksAt s at r
 look_answers s at e = (e, subst (LooksAt s at) (sym e) (look_means s at))
 
-module _ (names : List (List ℕ)) (s : List ℕ) (at : ℕ) (w : Words) (tie distance : ℕ) (r : Taken) (after : Words) where
+module _ (names : List (List ℕ)) (s : List ℕ) (at : ℕ) (w : Words) (tie distance : ℕ) (r : Option ℕ) (after : Words) where
   pub takes_means : Takes w (after_space s at) tie distance (operand_in (next_token names (drop (after_space s at) s))) r after → TakesAt names s at w tie distance r after
   takes_means t = go (operand_in (next_token names (drop (after_space s at) s))) refl t
     where
@@ -343,9 +342,10 @@ module _ (names : List (List ℕ)) (s : List ℕ) (at : ℕ) (w : Words) (tie di
             taken = λ q ts h.
                 let v = prepended (operand p) (lex_of names (drop (after_space s at + n) s)) (operand q ∷ ts) (sym f ∙ (tokens_law names (drop at s) (operand q ∷ ts)).0 h) in
                 let u : p ≡ q = cc in (
+                  after_space s at + n,
                   t.0,
-                  (tokens_law names (drop r.next s) ts).1 (ap (λ k. lex_of names (drop k s)) t.1 ∙ v.1),
-                  t.2 ∙ ap (λ z. push_words w (phrase_entries tie distance z.columns z.words)) u,
+                  (tokens_law names (drop (after_space s at + n) s) ts).1 v.1,
+                  t.1 ∙ ap (λ z. push_words w (phrase_entries tie distance z.columns z.words)) u,
                 );
             otherwise = λ ts h m.
                 let v = prepended (operand p) (lex_of names (drop (after_space s at + n) s)) ts (sym f ∙ (tokens_law names (drop at s) ts).0 h) in
@@ -354,7 +354,7 @@ module _ (names : List (List ℕ)) (s : List ℕ) (at : ℕ) (w : Words) (tie di
       go none_next e t =
           record {
             taken = λ q ts h. absurd (operand_missing names s at e (operand q ∷ ts) ((tokens_law names (drop at s) (operand q ∷ ts)).0 h) refl);
-            otherwise = λ ts h m. (t.0, t.2);
+            otherwise = λ ts h m. t;
           }
 
   pub takes_answers : Takes w (after_space s at) tie distance (operand_in (next_token names (drop (after_space s at) s))) r after

@@ -18,8 +18,7 @@ use Rattle.common.proofs.Runs.{span_most, span_before}
 use Rattle.common.specs.Bounds.{max_columns}
 use Rattle.tokenizer.specs.Word.{is_word, is_digit}
 use Rattle.offsets.specs.Names.{is_name_byte, column_of}
-use Rattle.offsets.specs.declared.Column.{Column}
-use Rattle.offsets.specs.declared.Column.TheVariants.{At, Unknown}
+use Rattle.std.specs.Prelude.{Option, None, Some}
 use Rattle.offsets.proofs.NameLaws.{column_law}
 use Rattle.lexer.specs.Token.{any_column, only_column, bare, written, Token, AND, OR, NOT, NEAR, operand, QueryWord}
 use Rattle.lexer.specs.Tokens.{star_byte, colon_byte, each, stops, Stretch, starred, PhraseWords, none, separator, word, bytes_and, bytes_or, bytes_not, bytes_near, bytes_near_slash, is_operator, decimal, mark, one_word, RunToken, and_run, or_run, not_run, near_run, written_run, word_run, column_run}
@@ -242,7 +241,7 @@ word_found names w star is other =
     ∙ ap (λ b. pick b (token (phrase_of (w ++ mark star) any_column) (length (w ++ mark star))) (column_run_token names (w ++ mark star))) (stem_is w star is)
     ∙ ap (λ t. token t (length (w ++ mark star))) (stem_words w star any_column is)
 
-column_found : (names : List (List ℕ)) (name w : List ℕ) (c : ℕ) (star : Bool) → Stretch is_name_byte name → column_of names name ≡ At c → c < max_columns → Stretch is_word w
+column_found : (names : List (List ℕ)) (name w : List ℕ) (c : ℕ) (star : Bool) → Stretch is_name_byte name → column_of names name ≡ Some c → c < max_columns → Stretch is_word w
     → run_next names (name ++ colon_byte ∷ (w ++ mark star)) ≡ token (one_word w star (only_column c)) (length (name ++ colon_byte ∷ (w ++ mark star)))
 column_found names name w c star is e low ws =
     let rest = w ++ mark star in
@@ -300,8 +299,8 @@ module _ (names : List (List ℕ)) (r : List ℕ) where
   name_stretch : 0 < span is_name_byte r → Stretch is_name_byte (take (span is_name_byte r) r)
   name_stretch h = record { some = omega (arith, length-take (span is_name_byte r) r, span_most is_name_byte r); passes = span_each is_name_byte r }
 
-  is_column : (name rest : List ℕ) (c : Column) → r ≡ name ++ colon_byte ∷ rest → Stretch is_name_byte name → Stem rest → column_of names name ≡ c → RunIs (in_column c rest (length r))
-  is_column name rest (At c) e is s f =
+  is_column : (name rest : List ℕ) (c : Option ℕ) → r ≡ name ++ colon_byte ∷ rest → Stretch is_name_byte name → Stem rest → column_of names name ≡ c → RunIs (in_column c rest (length r))
+  is_column name rest (Some c) e is s f =
       pick_case RunIs (ltb c max_columns) (token (phrase_of rest (only_column c)) (length r)) wrong
       (λ l. let w = s.word_bytes in (
         subst₂ (RunToken names) (sym (e ∙ ap (λ x. name ++ colon_byte ∷ x) s.whole)) (sym (ap (λ x. phrase_of x (only_column c)) s.whole ∙ stem_words w s.star (only_column c) s.stretch))
@@ -309,7 +308,7 @@ module _ (names : List (List ℕ)) (r : List ℕ) where
         refl,
       ))
       (λ _. tt)
-  is_column name rest Unknown e is s f = tt
+  is_column name rest None e is s f = tt
 
   is_named : RunIs (column_run_token names r)
   unfolding column_run_token

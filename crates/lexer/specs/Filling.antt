@@ -5,11 +5,6 @@ use Rattle.common.specs.Bounds.{max_word}
 use Rattle.lexer.specs.Token.{QueryWord, continues, Node, max_query, max_words, tie_number, tie_distance, mark_of}
 use Rattle.lexer.specs.declared.Words.{Words}
 
--- the words of lent arrays, `count` of them
-abbrev pub words_of : List ℕ → List ℕ → List ℕ → List ℕ → List ℕ → List ℕ → ℕ → Words
-words_of text ends marks columns ties distances count =
-    record { text = text; ends = ends; marks = marks; columns = columns; ties = ties; distances = distances; count = count }
-
 -- ---- one more word
 
 -- a word as the arrays hold it
@@ -21,11 +16,8 @@ pub record WordEntry : Type 0 where
   pub distance : ℕ
 
 -- where the last word's bytes end
-abbrev pub end_of : List ℕ → ℕ → ℕ
-end_of ends count = pick (eqb count 0) 0 (get_or ends (count - 1) 0)
-
 unfoldable pub text_end : Words → ℕ
-text_end w = end_of w.ends w.count
+text_end w = pick (eqb w.count 0) 0 (get_or w.ends (w.count - 1) 0)
 
 -- room for one more word: not the 17th, at most 64 bytes, and within the text
 unfoldable pub has_room : Words → List ℕ → Bool

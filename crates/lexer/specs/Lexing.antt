@@ -1,13 +1,11 @@
 -- The tokens of a query within document 01's bounds on its bytes and words: `QueryTokens`. Below that, `lex_of` goes through the
 -- bytes from the left, one token at a time (`next_token`); the crate proves that it finds exactly the tokens of `Tokens`.
-use Rattle.std.specs.Prelude.{ℕ, zero, suc, ◌+◌, ◌≤◌, ◌<◌, Bool, List, [], ◌∷◌, map, length, get_or, take, drop, eqb, leb, ltb}
+use Rattle.std.specs.Prelude.{ℕ, zero, suc, ◌+◌, ◌≤◌, ◌<◌, Bool, Option, None, Some, List, [], ◌∷◌, map, length, get_or, take, drop, eqb, leb, ltb}
 use Rattle.common.specs.Pick.{pick, both, either}
 use Rattle.common.specs.Bytes.{span, same, within}
 use Rattle.common.specs.Bounds.{max_word, max_columns}
 use Rattle.tokenizer.specs.Word.{is_word, is_digit, Place, places, word_at}
 use Rattle.offsets.specs.Names.{is_name_byte, column_of}
-use Rattle.offsets.specs.declared.Column.{Column}
-use Rattle.offsets.specs.declared.Column.TheVariants.{At, Unknown}
 use Rattle.lexer.specs.Token.{QueryWord, any_column, only_column, bare, written, Token, lparen, rparen, AND, OR, NOT, NEAR, operand, begins, token_nodes, max_query, max_words, node_map}
 use Rattle.lexer.specs.Tokens.{open_byte, close_byte, quote_byte, star_byte, colon_byte, is_space, is_run_byte, is_inner, each, bytes_and, bytes_or, bytes_not, bytes_near, bytes_near_slash, decimal, Tokens}
 
@@ -63,9 +61,9 @@ unfoldable pub is_near_written : List ℕ → Bool
 is_near_written r = both (within 6 9 (length r)) (both (same (take 5 r) bytes_near_slash) (each is_digit (drop 5 r)))
 
 -- a run after a column's name and `:`
-abbrev pub in_column : Column → List ℕ → ℕ → NextToken
-in_column (At c) text size = pick (ltb c max_columns) (token (phrase_of text (only_column c)) size) wrong
-in_column Unknown text size = wrong
+abbrev pub in_column : Option ℕ → List ℕ → ℕ → NextToken
+in_column (Some c) text size = pick (ltb c max_columns) (token (phrase_of text (only_column c)) size) wrong
+in_column None text size = wrong
 
 unfoldable pub column_run_token : List (List ℕ) → List ℕ → NextToken
 column_run_token names r =

@@ -1,28 +1,17 @@
 -- What the lexer answers at a place of a query's bytes: what comes next there (`look`), and the word or phrase that does
 -- (`take_operand`). White space in front of it is passed.
-use Rattle.std.specs.Prelude.{ℕ, ◌+◌, ◌<◌, ◌≡◌, Bool, true, false, List, [], ◌∷◌, take, drop, eqb}
+use Rattle.std.specs.Prelude.{ℕ, ◌+◌, ◌<◌, ◌≡◌, Option, None, Some, List, [], ◌∷◌, take, drop, eqb}
 use Rattle.common.specs.Pick.{pick}
 use Rattle.common.specs.Bytes.{span}
-use Rattle.tokenizer.specs.Word.{is_word, is_digit}
-use Rattle.offsets.specs.Names.{is_name_byte}
-use Rattle.lexer.specs.Token.{Phrase, Distance, Token, lparen, rparen, AND, OR, NOT, NEAR, operand, kind_of, operand_kind, end_kind, front_kind, after_front, Tie, begins, nears, tie_number, tie_distance}
-use Rattle.lexer.specs.Tokens.{open_byte, close_byte, quote_byte, is_space, is_run_byte, is_inner, Tokens}
+use Rattle.lexer.specs.Token.{Phrase, Distance, Token, lparen, rparen, AND, OR, NOT, NEAR, operand, token_kind, kind_number, operand_kind, front_kind, after_front, Tie, begins, nears, tie_number, tie_distance}
+use Rattle.lexer.specs.Tokens.{open_byte, close_byte, quote_byte, is_space, is_run_byte, Tokens}
 use Rattle.lexer.specs.Lexing.{NextToken, done, blank, token, wrong, Operator, operator, no_operator, operator_of}
 use Rattle.lexer.specs.Filling.{push_words, phrase_entries}
-use Rattle.lexer.specs.declared.Class.{Class}
-use Rattle.lexer.specs.declared.Class.TheVariants.{Run, Inner, Word, Name, Digit}
 use Rattle.lexer.specs.declared.Words.{Words}
+use Rattle.lexer.specs.declared.Kind.{Kind}
+use Rattle.lexer.specs.declared.Kind.TheVariants as kind
 use Rattle.lexer.specs.declared.Sign.{Sign}
 use Rattle.lexer.specs.declared.Ahead.{Ahead}
-use Rattle.lexer.specs.declared.Taken.{Taken}
-
--- the bytes of a class
-abbrev pub in_class : Class → ℕ → Bool
-in_class Run b = is_run_byte b
-in_class Inner b = is_inner b
-in_class Word b = is_word b
-in_class Name b = is_name_byte b
-in_class Digit b = is_digit b
 
 -- the first place from `at` on that has no white space
 abbrev pub after_space : List ℕ → ℕ → ℕ
@@ -47,24 +36,24 @@ abbrev pub distance_after : Token → ℕ
 distance_after t = tie_distance (next_tie t)
 
 -- a kind whose tokens tie nothing
-abbrev pub plain_sign : ℕ → Sign
+abbrev pub plain_sign : Kind → Sign
 plain_sign kind = record { kind = kind; tie = tie_number begins; distance = tie_distance begins }
 
 -- an operator by its numbers; a run that is none is an operand or nothing
 abbrev pub sign_of : Operator → Sign
-sign_of (operator t) = record { kind = kind_of t; tie = tie_after t; distance = distance_after t }
-sign_of no_operator = plain_sign operand_kind
+sign_of (operator t) = record { kind = token_kind t; tie = tie_after t; distance = distance_after t }
+sign_of no_operator = plain_sign kind.Operand
 
 abbrev pub ahead : Sign → ℕ → Ahead
 ahead sign next = record { kind = sign.kind; tie = sign.tie; distance = sign.distance; next = next }
 
 -- for bytes that begin at the place `from` with no white space
 unfoldable pub ahead_from : ℕ → List ℕ → Ahead
-ahead_from from [] = ahead (plain_sign end_kind) from
+ahead_from from [] = ahead (plain_sign kind.End) from
 ahead_from from (b ∷ s) =
-    pick (eqb b open_byte) (ahead (plain_sign (kind_of lparen)) (from + 1))
-    (pick (eqb b close_byte) (ahead (plain_sign (kind_of rparen)) (from + 1))
-    (pick (eqb b quote_byte) (ahead (plain_sign operand_kind) (from + 1))
+    pick (eqb b open_byte) (ahead (plain_sign kind.LeftParen) (from + 1))
+    (pick (eqb b close_byte) (ahead (plain_sign kind.RightParen) (from + 1))
+    (pick (eqb b quote_byte) (ahead (plain_sign kind.Operand) (from + 1))
     (ahead (sign_of (operator_of (take (span is_run_byte (b ∷ s)) (b ∷ s)))) (from + span is_run_byte (b ∷ s)))))
 
 abbrev pub look_at : List ℕ → ℕ → Ahead
@@ -73,14 +62,14 @@ look_at s at = ahead_from (after_space s at) (drop (after_space s at) s)
 -- what the answer `a` says of the tokens from the place `at` on, whatever the names of the columns are
 pub record LooksAt (s : List ℕ) (at : ℕ) (a : Ahead) : Type 0 where
   -- its kind is that of the first token, or of none
-  pub front : (names : List (List ℕ)) (ts : List Token) → Tokens names (drop at s) ts → a.kind ≡ front_kind ts
+  pub front : (names : List (List ℕ)) (ts : List Token) → Tokens names (drop at s) ts → kind_number a.kind ≡ front_kind ts
   -- unless that is an operand, the others follow where it ends
-  pub rest : (names : List (List ℕ)) (ts : List Token) → Tokens names (drop at s) ts → a.kind < operand_kind → Tokens names (drop a.next s) (after_front ts)
+  pub rest : (names : List (List ℕ)) (ts : List Token) → Tokens names (drop at s) ts → kind_number a.kind < operand_kind → Tokens names (drop a.next s) (after_front ts)
   -- what is written at NEAR
   pub ties : (names : List (List ℕ)) (d : Distance) (ts : List Token) → Tokens names (drop at s) (NEAR d ∷ ts)
       → (a.tie ≡ tie_number (nears d)) × (a.distance ≡ tie_distance (nears d))
   -- nothing but white space is left
-  pub end : (names : List (List ℕ)) → a.kind ≡ end_kind → Tokens names (drop at s) []
+  pub end : (names : List (List ℕ)) → a.kind ≡ kind.End → Tokens names (drop at s) []
 
 -- ---- the word or phrase that comes next
 
@@ -101,16 +90,16 @@ operand_in (token (NEAR d) n) = none_next
 operand_in (token (operand p) n) = operand_next p n
 operand_in wrong = none_next
 
--- the answer `r` to what is found at the place `from`: its words, the first of them tied as told, come after the words `w`
-abbrev pub Takes : Words → ℕ → ℕ → ℕ → NextOperand → Taken → Words → Type 0
+-- the answer `r`, which says where it ends, to what is found at the place `from`: its words, the first of them tied as told, come after the words `w`
+abbrev pub Takes : Words → ℕ → ℕ → ℕ → NextOperand → Option ℕ → Words → Type 0
 Takes w from tie distance (operand_next p n) r after =
-    (r.ok ≡ true) × (r.next ≡ from + n) × (after ≡ push_words w (phrase_entries tie distance p.columns p.words))
-Takes w from tie distance none_next r after = (r.ok ≡ false) × (r.next ≡ 0) × (after ≡ w)
+    (r ≡ Some (from + n)) × (after ≡ push_words w (phrase_entries tie distance p.columns p.words))
+Takes w from tie distance none_next r after = (r ≡ None) × (after ≡ w)
 
 -- what it says of the tokens from the place `at` on
-pub record TakesAt (names : List (List ℕ)) (s : List ℕ) (at : ℕ) (w : Words) (tie distance : ℕ) (r : Taken) (after : Words) : Type 0 where
+pub record TakesAt (names : List (List ℕ)) (s : List ℕ) (at : ℕ) (w : Words) (tie distance : ℕ) (r : Option ℕ) (after : Words) : Type 0 where
   -- a word or phrase is taken, and the other tokens follow where it ends
   pub taken : (p : Phrase) (ts : List Token) → Tokens names (drop at s) (operand p ∷ ts)
-      → (r.ok ≡ true) × Tokens names (drop r.next s) ts × (after ≡ push_words w (phrase_entries tie distance p.columns p.words))
+      → (next : ℕ) × (r ≡ Some next) × Tokens names (drop next s) ts × (after ≡ push_words w (phrase_entries tie distance p.columns p.words))
   -- anything else is not
-  pub otherwise : (ts : List Token) → Tokens names (drop at s) ts → (front_kind ts ≡ operand_kind → ⊥) → (r.ok ≡ false) × (after ≡ w)
+  pub otherwise : (ts : List Token) → Tokens names (drop at s) ts → (front_kind ts ≡ operand_kind → ⊥) → (r ≡ None) × (after ≡ w)

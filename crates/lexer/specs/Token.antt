@@ -4,6 +4,8 @@
 use Rattle.std.specs.Prelude.{ℕ, ◌+◌, ◌-◌, ◌^◌, Bool, List, [], ◌∷◌, ◌++◌, length, replicate}
 use Rattle.common.specs.Pick.{pick}
 use Rattle.lexer.specs.declared.Words.{Words}
+use Rattle.lexer.specs.declared.Kind.{Kind}
+use Rattle.lexer.specs.declared.Kind.TheVariants.{LeftParen, RightParen, And, Or, Not, Near, Operand, End}
 
 -- a word, and whether it stands for all words that begin with it
 pub record QueryWord : Type 0 where
@@ -38,14 +40,27 @@ pub data Token : Type 0 where
 
 -- ---- how tokens are numbered for the parser
 
+abbrev pub token_kind : Token → Kind
+token_kind lparen = LeftParen
+token_kind rparen = RightParen
+token_kind AND = And
+token_kind OR = Or
+token_kind NOT = Not
+token_kind (NEAR n) = Near
+token_kind (operand p) = Operand
+
+abbrev pub kind_number : Kind → ℕ
+kind_number LeftParen = 0
+kind_number RightParen = 1
+kind_number And = 2
+kind_number Or = 3
+kind_number Not = 4
+kind_number Near = 5
+kind_number Operand = 6
+kind_number End = 7
+
 abbrev pub kind_of : Token → ℕ
-kind_of lparen = 0
-kind_of rparen = 1
-kind_of AND = 2
-kind_of OR = 3
-kind_of NOT = 4
-kind_of (NEAR n) = 5
-kind_of (operand p) = 6
+kind_of t = kind_number (token_kind t)
 
 -- the kinds of NEAR and of operands, whatever they carry, and one for no token
 abbrev pub near_kind : ℕ

@@ -2,12 +2,11 @@
 -- the one sought from what the word before shares with each.
 use Prim.Native.Nat.{ℕ, suc, ◌+◌, ◌-◌, ◌≤◌, ◌<◌}
 use native.Mathlib.Omega.{arith}
-use native.Mathlib.Numerals.{add-one}
 use mathlib.Core.Path.{◌≡◌, refl, sym, ap, ap₂, ◌∙◌, subst}
 use mathlib.Core.Logic.{inl, inr, ⊎_elim}
 use mathlib.Core.List.{List, [], ◌∷◌, ◌++◌}
 use lib.ListN.{length, get_or, take, drop, take-append-drop, length-drop, drop_of_length-le}
-use lib.Seq.{take-suc, drop-cons, length-take-le, take_all}
+use lib.Seq.{drop-cons, length-take-le, take_all}
 use borrow.Author.Tests.{eq-eqb, ne_eqb}
 use Rattle.common.proofs.Cases.{same_or}
 use Rattle.leaf.specs.Leaf.{Before, shared}
@@ -59,17 +58,11 @@ module _ (v w : List ℕ) (i : ℕ) (a : i ≤ length v) (b : i ≤ length w) (e
   pub byte_greater : i < length v → i < length w → get_or w i 0 < get_or v i 0 → OrderIs v w Greater
   byte_greater h k l = agreed v w i Greater a e (rw (drop-cons v i 0 h, drop-cons w i 0 k) (inl l))
 
-  pub byte_same : i < length v → i < length w → get_or v i 0 ≡ get_or w i 0 → take (i + 1) v ≡ take (i + 1) w
-  byte_same h k q = rw (add-one, take-suc v i 0 h, take-suc w i 0 k) (ap₂ (λ (x : List ℕ) (y : ℕ). x ++ (y ∷ [])) e q)
-
   pub first_ends : length v ≤ i → i < length w → OrderIs v w (Less i)
   first_ends h k = less_here (rw (drop_of_length-le v h, drop-cons w i 0 k) (tt, refl))
 
   pub second_ends : i < length v → length w ≤ i → OrderIs v w Greater
   second_ends h k = agreed v w i Greater a e (rw (drop_of_length-le w k, drop-cons v i 0 h) tt)
-
-  pub both_end : length v ≤ i → length w ≤ i → OrderIs v w Equal
-  both_end h k = agreed v w i Equal a e (drop_of_length-le v h ∙ sym (drop_of_length-le w k))
 
 -- ---- what is shared
 

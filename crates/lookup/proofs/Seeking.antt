@@ -11,9 +11,9 @@ use Rattle.varint.specs.declared.Varint.TheVariants as varint
 use Rattle.varint.proofs.Laws.{refused_no_value, next_same}
 use Rattle.doclist.specs.Doclist.{encode_list}
 use Rattle.leaf.specs.Leaf.{Term, Before, shared, encode_terms, encode_leaf, LeafIs, NoTerm}
-use Rattle.leaf.specs.Reading.{first_word, head_at}
+use Rattle.leaf.specs.Reading.{first_word, head, head_at}
 use Rattle.leaf.specs.Rest.{RestIs}
-use Rattle.leaf.specs.declared.Head.TheVariants as head
+use Rattle.std.specs.Prelude.{None}
 use Rattle.leaf.proofs.Words.{before_some, before_irrefl}
 use Rattle.leaf.proofs.Heads.{head_sound}
 use Rattle.leaf.proofs.Laws.{height_there}
@@ -89,10 +89,10 @@ module _ (count : ℕ) (s word : List ℕ) (ts : List Term) (read n same i : ℕ
       go [] r e q = absurd (omega (arith, simp length-drop at (ap length r.bytes)))
       go (t ∷ us) r e q = record { term = t; after = us; whole = e; stored = r; left = q }
 
-  pub seeking_refused {ℓ} : {X : Type ℓ} → i < length s → head_at s i ≡ head.Refused → X
+  pub seeking_refused {ℓ} : {X : Type ℓ} → i < length s → head_at s i ≡ None → X
   seeking_refused h e = head_not_refused count s small (next h).stored e
 
-  module _ (h : i < length s) {p f m l x : ℕ} (e : head_at s i ≡ head.Found p f m l x) (o : Order) (st : StandsIs word same p (part s f (f + m)) o) where
+  module _ (h : i < length s) {p f m l x : ℕ} (e : head_at s i ≡ head p f m l x) (o : Order) (st : StandsIs word same p (part s f (f + m)) o) where
     -- the next term, as it was met, and how its word stands to the one sought
     record Met : Type 0 where
       pub next_term : Next

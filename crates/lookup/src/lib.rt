@@ -8,7 +8,8 @@ ghost use Rattle.lookup.specs.Words.{WordFound, WordIs, word_numbers, word_read,
 ghost use Rattle.lookup.specs.Entries.{EntryFound, BothLeaves, Decides, DecidingShape, DecidingIs, deciding_numbers, EntryGiven};
 
 use doclist::EntryAt;
-use leaf::{Head, LeafCheck};
+use leaf::LeafCheck;
+use std::cmp::Ordering;
 use varint::Varint;
 
 // Document 01's numbers of the answers.
@@ -28,7 +29,7 @@ const FIRST_NUMBERS: u64 = 2;
 
 const LATER_NUMBERS: u64 = 3;
 
-// How a word stands to the one sought.
+// How a word stands to the one sought. Not std's `Ordering`, since `Less` carries what the two share.
 #[derive(Drop)]
 enum Order {
     // It comes before, and shares so many bytes with it from the start.
@@ -37,7 +38,7 @@ enum Order {
     Greater,
 }
 
-// What looking a word up in one leaf answers.
+// What looking a word up in one leaf answers. An own enum: document 01 gives each case its numbers (`word_numbers`).
 #[derive(Clone, Copy)]
 pub enum WordAnswer {
     // The word's posting list is `size` bytes from `start`; `read` numbers were read outside posting lists.
@@ -60,23 +61,18 @@ pub enum WordAnswer {
 fn compare(v: &[u8], w: &[u8]) -> Order
     ensures { OrderIs v.now w.now result }
 {
-    let mut i = 0;
-    while i < v.len() {
-        if w.len() <= i {
-            return Order::Greater;
+    for i in 0..v.len().min(w.len()) {
+        match v[i].cmp(&w[i]) {
+            Ordering::Less => return Order::Less(i),
+            Ordering::Equal => {}
+            Ordering::Greater => return Order::Greater,
         }
-        if v[i] < w[i] {
-            return Order::Less(i);
-        }
-        if w[i] < v[i] {
-            return Order::Greater;
-        }
-        i += 1;
     }
-    if i < w.len() {
-        return Order::Less(i);
+    match v.len().cmp(&w.len()) {
+        Ordering::Less => Order::Less(v.len()),
+        Ordering::Equal => Order::Equal,
+        Ordering::Greater => Order::Greater,
     }
-    Order::Equal
 }
 
 // How the next word of a leaf stands to `word`: it shares `prefix` bytes with the word before it and goes on with
@@ -104,11 +100,7 @@ fn seek(leaf: &[u8], word: &[u8]) -> WordAnswer
     requires { 0 < length word.now }
     ensures { (columns : ℕ) (ts : List Term) → LeafIs columns leaf.now ts → WordFound ts word.now result }
 {
-    let Varint::Value {
-        value: _,
-        next: first,
-    } = varint::read(leaf, 0)
-    else {
+    let Varint::Value { next: first, .. } = varint::read(leaf, 0) else {
         return WordAnswer::Nothing { read: 0 };
     };
     let mut read: u64 = HEIGHT_NUMBERS;
@@ -116,27 +108,20 @@ fn seek(leaf: &[u8], word: &[u8]) -> WordAnswer
     let mut same: usize = 0;
     let mut i = first;
     while i < leaf.len() {
-        let Head::Found {
-            prefix,
-            from,
-            size,
-            list,
-            next,
-        } = leaf::head_at(leaf, i)
-        else {
+        let Some(head) = leaf::head_at(leaf, i) else {
             return WordAnswer::Nothing { read };
         };
         read += numbers;
         numbers = LATER_NUMBERS;
-        let to = from + size;
-        match stands(word, same, prefix, &leaf[from..to]) {
+        let to = head.from + head.size;
+        match stands(word, same, head.prefix, &leaf[head.from..to]) {
             Order::Less(n) => {
                 same = n;
             }
             Order::Equal => {
                 return WordAnswer::Found {
-                    start: list,
-                    size: next - list,
+                    start: head.list,
+                    size: head.next - head.list,
                     read,
                 };
             }
@@ -144,7 +129,7 @@ fn seek(leaf: &[u8], word: &[u8]) -> WordAnswer
                 return WordAnswer::Nothing { read };
             }
         }
-        i = next;
+        i = head.next;
     }
     WordAnswer::Nothing { read }
 }
@@ -171,12 +156,7 @@ pub fn word_number(answer: WordAnswer) -> u32
     ensures { result ≡ (word_numbers answer).number }
 {
     match answer {
-        WordAnswer::Found {
-            start: _,
-            size: _,
-            read: _,
-        } => ACCEPTED,
-        WordAnswer::Nothing { read: _ } => ACCEPTED,
+        WordAnswer::Found { .. } | WordAnswer::Nothing { .. } => ACCEPTED,
         WordAnswer::Shape => SHAPE,
         WordAnswer::Broken => BROKEN,
     }
@@ -187,14 +167,8 @@ pub fn word_second(answer: WordAnswer) -> u64
     ensures { result ≡ (word_numbers answer).second }
 {
     match answer {
-        WordAnswer::Found {
-            start: _,
-            size,
-            read: _,
-        } => size as u64,
-        WordAnswer::Nothing { read: _ } => 0,
-        WordAnswer::Shape => 0,
-        WordAnswer::Broken => 0,
+        WordAnswer::Found { size, .. } => size as u64,
+        WordAnswer::Nothing { .. } | WordAnswer::Shape | WordAnswer::Broken => 0,
     }
 }
 
@@ -203,14 +177,8 @@ pub fn word_read(answer: WordAnswer) -> u64
     ensures { result ≡ word_read answer }
 {
     match answer {
-        WordAnswer::Found {
-            start: _,
-            size: _,
-            read,
-        } => read,
-        WordAnswer::Nothing { read } => read,
-        WordAnswer::Shape => 0,
-        WordAnswer::Broken => 0,
+        WordAnswer::Found { read, .. } | WordAnswer::Nothing { read } => read,
+        WordAnswer::Shape | WordAnswer::Broken => 0,
     }
 }
 
@@ -231,11 +199,7 @@ pub fn lookup<'a>(
     *second = word_second(answer);
     *read = word_read(answer);
     match answer {
-        WordAnswer::Found {
-            start,
-            size,
-            read: _,
-        } => {
+        WordAnswer::Found { start, size, .. } => {
             let end = start + size;
             &leaf[start..end]
         }
@@ -245,7 +209,7 @@ pub fn lookup<'a>(
 
 // ---- two leaves
 
-// What looking for the entry that decides answers.
+// What looking for the entry that decides answers. An own enum: document 01 gives each case its numbers (`deciding_numbers`).
 #[derive(Clone, Copy)]
 pub enum EntryAnswer {
     // The newer leaf decides: the entry is `size` bytes from `start` in it.
@@ -265,12 +229,7 @@ fn entry_in(leaf: &[u8], columns: u64, word: &[u8], docid: u64) -> EntryAt
     requires { (0 < length word.now) × ((ts : List Term) × LeafIs columns leaf.now ts) }
     ensures { (ts : List Term) → LeafIs columns leaf.now ts → EntryFound ts word.now docid result }
 {
-    let WordAnswer::Found {
-        start,
-        size,
-        read: _,
-    } = seek(leaf, word)
-    else {
+    let WordAnswer::Found { start, size, .. } = seek(leaf, word) else {
         return EntryAt::Absent;
     };
     let end = start + size;
@@ -359,12 +318,9 @@ pub fn entry_number(answer: EntryAnswer) -> u32
     ensures { result ≡ (deciding_numbers answer).number }
 {
     match answer {
-        EntryAnswer::Newer { start: _, size: _ } => ACCEPTED,
-        EntryAnswer::Older { start: _, size: _ } => ACCEPTED,
-        EntryAnswer::Nothing => ACCEPTED,
+        EntryAnswer::Newer { .. } | EntryAnswer::Older { .. } | EntryAnswer::Nothing => ACCEPTED,
         EntryAnswer::Shape => SHAPE,
-        EntryAnswer::NewerBroken => BROKEN,
-        EntryAnswer::OlderBroken => BROKEN,
+        EntryAnswer::NewerBroken | EntryAnswer::OlderBroken => BROKEN,
     }
 }
 
@@ -373,11 +329,8 @@ pub fn entry_second(answer: EntryAnswer) -> u64
     ensures { result ≡ (deciding_numbers answer).second }
 {
     match answer {
-        EntryAnswer::Newer { start: _, size } => size as u64,
-        EntryAnswer::Older { start: _, size } => size as u64,
-        EntryAnswer::Nothing => 0,
-        EntryAnswer::Shape => 0,
-        EntryAnswer::NewerBroken => 0,
+        EntryAnswer::Newer { size, .. } | EntryAnswer::Older { size, .. } => size as u64,
+        EntryAnswer::Nothing | EntryAnswer::Shape | EntryAnswer::NewerBroken => 0,
         EntryAnswer::OlderBroken => 1,
     }
 }

@@ -20,7 +20,7 @@ use Rattle.offsets.specs.Cut.{Cuts}
 use Rattle.offsets.proofs.Cuts.{length_cut}
 use Rattle.directory.specs.Age.{Pair, pairs, pair_at, Newer, Dated, NewestFirst}
 use Rattle.directory.specs.Order.{OrderIs, up_to, Ordered}
-use Rattle.directory.specs.declared.Order.{Order}
+use Rattle.std.specs.Prelude.{Option, IsSome}
 use Rattle.directory.proofs.Permutations.{perm_member}
 use Rattle.directory.proofs.Sorting.{upto_below}
 use Rattle.directory.proofs.Ages.{newest_one, newer_never, newer_trans}
@@ -111,7 +111,7 @@ zeros_fill n leaf room e = e ∙ zeros_over leaf n
 
 -- all but the pairs was tested
 pub shape_told : (x : Input) → 1 ≤ x.columns → x.columns ≤ max_columns → 0 < length x.leaf_ends → length x.leaves ≤ max_index_bytes → Cuts x.leaves x.leaf_ends
-    → (r : Order) → Ordered x.levels x.indexes (length x.leaf_ends) r → (r.ok ≡ true) ↔ ShapeRight x
+    → (r : Option (List ℕ)) → Ordered x.levels x.indexes (length x.leaf_ends) r → IsSome r ↔ ShapeRight x
 shape_told x a b c d e r o = (
   λ q. let k = o.exact.0 q in record { some_column = a; few_columns = b; some_leaf = c; few_bytes = d; leaf_cuts = e; few_leaves = k.0; dated = k.1 },
   λ s. o.exact.1 (s.few_leaves, s.dated),

@@ -22,7 +22,7 @@ use Rattle.cursors.proofs.Each.{group_length}
 use Rattle.opening.specs.Matching.{mask_of, TextIs}
 use Rattle.opening.specs.Opening.{LeavesAre, Arrays, AsLong}
 use Rattle.opening.specs.Fronts.{front_at, no_front, Placed, FrontsAre, HoldAll, all_popped, head_lists}
-use Rattle.opening.specs.Walking.{AllPlaced, word_of, Begins, TakesWord, with_lead, Foremost, LeadOf, TakesAlone}
+use Rattle.opening.specs.Walking.{AllPlaced, word_of, Begins, TakesWord, with_lead, Foremost, LeadOf, AloneTaken}
 use Rattle.opening.specs.declared.Front.{Front}
 use Rattle.opening.specs.declared.WordLists.{WordLists}
 use Rattle.opening.specs.declared.Lead.{Lead}
@@ -31,7 +31,7 @@ use Rattle.merged.specs.Merged.{Merged}
 use Rattle.merged.proofs.Indexes.{leaves_good}
 use Rattle.merged.proofs.Making.{merged_some}
 use Rattle.merge.specs.Words.{every_word, with_term, Merging}
-use Rattle.merge.specs.Terms.{LeastTaken, WordTaken, StoredFrame, WordAdded, LeafMerged, Stands, Going, OfLeaves, Steps, RivalIs, LoneSteps, Runs, Rounds, TermsPut}
+use Rattle.merge.specs.Terms.{LeastTaken, WordTaken, StoredFrame, WordAdded, LeafMerged, Stands, Going, OfLeaves, Steps, RivalIs, LoneStepped, Runs, Rounds, TermsPut}
 use Rattle.merge.specs.declared.words.Taken.{Taken}
 use Rattle.merge.specs.declared.words.Stored.{Stored}
 use Rattle.merge.specs.declared.words.Stepped.{Stepped}
@@ -163,7 +163,7 @@ placed_lead size order fronts a b e h p all j i =
     (λ ne.
     subst (Placed size) (get_or-set_other fronts a.at j a.front no_front ne ∙ sym (get_or-set_other fronts b.at j b.front no_front (λ q. ne (q ∙ e)))) (all j i))
 
-module _ {text stops marks bytes ends order : List ℕ} {lead : Lead} {before held : Arrays} {lone : Lone} (takes : TakesAlone text stops marks 1 bytes ends order lead before held lone) where
+module _ {text stops marks bytes ends order : List ℕ} {lead : Lead} {before held : Arrays} {lone : Lone} (takes : AloneTaken text stops marks 1 bytes ends order lead before held lone) where
   -- what was taken, as a word of all leaves
   abbrev as_taken : List Front → Taken
   as_taken fronts =
@@ -172,10 +172,10 @@ module _ {text stops marks bytes ends order : List ℕ} {lead : Lead} {before he
         lists = record { docids = held.docids; bodies = held.bodies; lasts = held.lasts; masks = held.masks; follows = held.follows; n = 1 };
       }
 
-  alone_least : lone.found ≡ true → (count : ℕ) (index left : List (List Term)) (fronts : List Front) → OfLeaves text stops marks bytes ends order count index → RivalIs order fronts lead
+  alone_least : (count : ℕ) (index left : List (List Term)) (fronts : List Front) → OfLeaves text stops marks bytes ends order count index → RivalIs order fronts lead
       → FrontsAre every_word count bytes ends order (with_lead fronts lead) left → LeastTaken count bytes ends order left (as_taken fronts)
-  alone_least e count index left fronts o rival are =
-      let t = takes.content e every_word count fronts left o.every rival.0 are rival.1 in
+  alone_least count index left fronts o rival are =
+      let t = takes.content every_word count fronts left o.every rival.0 are rival.1 in
       let w : List ℕ = word_of (as_taken fronts).next in
       record {
         some_list = λ z. omega arith;
@@ -185,19 +185,15 @@ module _ {text stops marks bytes ends order : List ℕ} {lead : Lead} {before he
         lists_are = record { small = o.leaves.small; hold = subst (HoldAll bytes held 1) (sym (append-nil (group_cursors (mask_of every_word w) 0 (head_lists w left)))) t.taken.hold };
       }
 
-  pub lone_none : {keep : Bool} {stored : Stored} {room : List ℕ} → lone.found ≡ false → StoredFrame stored → LoneSteps keep text stops marks bytes ends order lead stored room room (record { found = false; lead = lead; stored = stored })
-  lone_none e f = record { content = λ t. false_not_true t; none = λ _. refl; lead_at = refl; lead_rival = refl; frame = f }
-
-  pub lone_on : {keep : Bool} {stored : Stored} {room after : List ℕ} {r : Stored} → lone.found ≡ true
+  pub lone_on : {keep : Bool} {stored : Stored} {room after : List ℕ} {r : Stored}
       → WordAdded keep bytes stored lone.word lone.size (record { docids = held.docids; bodies = held.bodies; lasts = held.lasts; masks = held.masks; follows = held.follows; n = 1 }) room after r
-      → LoneSteps keep text stops marks bytes ends order lead stored room after (record { found = true; lead = lone.lead; stored = r })
-  lone_on e added = record {
-    content = λ _ count index most base fronts o rival s.
-        let k = takes.found.0 e in
-        word_on o.leaves s (as_taken fronts) (alone_least e count index s.left fronts o rival s.fronts_are)
+      → LoneStepped keep text stops marks bytes ends order lead stored room after (record { lead = lone.lead; stored = r })
+  lone_on added = record {
+    content = λ count index most base fronts o rival s.
+        let k = takes.alone in
+        word_on o.leaves s (as_taken fronts) (alone_least count index s.left fronts o rival s.fronts_are)
         (placed_lead (length bytes) order fronts lead lone.lead takes.lead_at (omega (arith, k.leaf, k.able.1, rival.0)) (takes.placed k.placed) s.placed)
         added;
-    none = λ f. false_not_true (sym f);
     lead_at = takes.lead_at;
     lead_rival = takes.lead_rival;
     frame = added.frame;
@@ -219,25 +215,25 @@ module _ {keep : Bool} {text stops marks bytes ends order : List ℕ} {first : L
   pub alone_start : StoredFrame from → Alone keep text stops marks bytes ends order first from most room first from most room
   alone_start f = record { room_size = refl; lead_at = refl; lead_rival = refl; runs = record { content = λ count index base fronts o rival g. g; few = omega arith; frame = f } }
 
-  module _ {lead : Lead} {stored : Stored} {left : ℕ} {now after : List ℕ} (a : Alone keep text stops marks bytes ends order first from most room lead stored left now) {r : LoneStep} (size : length after ≡ length now)
-      (s : LoneSteps keep text stops marks bytes ends order lead stored now after r) where
-    pub alone_on : stored.more ≡ true → r.found ≡ true → Alone keep text stops marks bytes ends order first from most room r.lead r.stored (left - 1) after
-    alone_on more e = record {
+  module _ {lead : Lead} {stored : Stored} {left : ℕ} {now after : List ℕ} (a : Alone keep text stops marks bytes ends order first from most room lead stored left now) where
+    pub alone_on : {r : LoneStep} → length after ≡ length now → LoneStepped keep text stops marks bytes ends order lead stored now after r → stored.more ≡ true
+        → Alone keep text stops marks bytes ends order first from most room r.lead r.stored (left - 1) after
+    alone_on size s more = record {
       room_size = size ∙ a.room_size;
       lead_at = s.lead_at ∙ a.lead_at;
       lead_rival = s.lead_rival ∙ a.lead_rival;
       runs =
           record {
             content = λ count index base fronts o rival g.
-                s.content e count index left base fronts o (rival_stays order fronts first lead a.lead_at a.lead_rival rival) ((a.runs.content count index base fronts o rival g).goes_on more);
+                s.content count index left base fronts o (rival_stays order fronts first lead a.lead_at a.lead_rival rival) ((a.runs.content count index base fronts o rival g).goes_on more);
             few = omega (arith, a.runs.few);
             frame = s.frame;
           };
     }
 
     -- no word was taken
-    pub alone_out : r.found ≡ false → Runs keep text stops marks bytes ends order first from most room after (record { lead = lead; stored = stored; left = left })
-    alone_out e = subst (λ (x : List ℕ). Runs keep text stops marks bytes ends order first from most room x (record { lead = lead; stored = stored; left = left })) (sym (s.none e)) a.runs
+    pub alone_out : after ≡ now → Runs keep text stops marks bytes ends order first from most room after (record { lead = lead; stored = stored; left = left })
+    alone_out e = subst (λ (x : List ℕ). Runs keep text stops marks bytes ends order first from most room x (record { lead = lead; stored = stored; left = left })) (sym e) a.runs
 
 -- ---- a round
 

@@ -1,5 +1,5 @@
 -- The leaf of the merge, measured and written term by term.
-use Rattle.std.specs.Prelude.{ℕ, ◌+◌, ◌-◌, ◌≤◌, ◌<◌, ◌≡◌, Bool, true, false, ◌⊎◌, List, [], ◌++◌, length, take}
+use Rattle.std.specs.Prelude.{ℕ, ◌+◌, ◌-◌, ◌≤◌, ◌<◌, ◌≡◌, Bool, true, false, ◌⊎◌, List, [], ◌++◌, length, take, Option, Some, None}
 use Rattle.common.specs.Bounds.{max_word, max_leaves, max_index_bytes}
 use Rattle.common.specs.Bytes.{over}
 use Rattle.varint.specs.Varint.{max_varint}
@@ -175,15 +175,20 @@ pub record Steps (keep : Bool) (text stops marks bytes ends order : List ℕ) (f
 abbrev pub RivalIs : List ℕ → List Front → Lead → Type 0
 RivalIs order fronts lead = (length fronts ≡ max_leaves) × Foremost fronts (length order) lead.at lead.rival
 
-pub record LoneSteps (keep : Bool) (text stops marks bytes ends order : List ℕ) (lead : Lead) (stored : Stored) (room after : List ℕ) (r : LoneStep) : Type 0 where
-  pub content : r.found ≡ true → (count : ℕ) (index : List (List Term)) (most : ℕ) (base : List ℕ) (fronts : List Front) → OfLeaves text stops marks bytes ends order count index
+-- one step of it
+pub record LoneStepped (keep : Bool) (text stops marks bytes ends order : List ℕ) (lead : Lead) (stored : Stored) (room after : List ℕ) (r : LoneStep) : Type 0 where
+  pub content : (count : ℕ) (index : List (List Term)) (most : ℕ) (base : List ℕ) (fronts : List Front) → OfLeaves text stops marks bytes ends order count index
       → RivalIs order fronts lead
       → Stands keep count index bytes ends order most base (with_lead fronts lead) stored room
       → Going keep count index bytes ends order (most - 1) base (with_lead fronts r.lead) r.stored after
-  pub none : r.found ≡ false → after ≡ room
   pub lead_at : r.lead.at ≡ lead.at
   pub lead_rival : r.lead.rival ≡ lead.rival
   pub frame : StoredFrame r.stored
+
+-- where it went on alone, if it did
+abbrev pub LoneSteps : Bool → List ℕ → List ℕ → List ℕ → List ℕ → List ℕ → List ℕ → Lead → Stored → List ℕ → List ℕ → Option LoneStep → Type 0
+LoneSteps keep text stops marks bytes ends order lead stored room after None = after ≡ room
+LoneSteps keep text stops marks bytes ends order lead stored room after (Some r) = LoneStepped keep text stops marks bytes ends order lead stored room after r
 
 -- some words of one leaf
 pub record Runs (keep : Bool) (text stops marks bytes ends order : List ℕ) (lead : Lead) (stored : Stored) (most : ℕ) (room after : List ℕ) (r : Run) : Type 0 where

@@ -4,13 +4,11 @@
 
 mod words;
 
-ghost use Rattle.std.specs.Prelude.{◌≡◌, ◌↔◌, true, false, ◌<◌, length, replicate};
-ghost use Rattle.directory.specs.Order.{Ordered};
-ghost use Rattle.merge.specs.Merge.{ShapeRight, MergesTo, pair_answer};
+ghost use Rattle.std.specs.Prelude.{◌≡◌, ◌↔◌, true, false, ◌<◌, length, replicate, IsSome, IfSome};
+ghost use Rattle.directory.specs.Order.{OrderPlaced};
+ghost use Rattle.merge.specs.Merge.{numbers_of, pair_of, ShapeRight, MergesTo, pair_answer};
 
-use directory::Order;
-
-// What a merge answers.
+// What a merge answers. An own enum: the numbers of the answers are said of its cases (document 01).
 #[derive(Clone, Copy)]
 pub enum Answer {
     // The leaf stands in the room: how many bytes it took, and the level and the index of the newest leaf lent. All are 0 where
@@ -24,29 +22,76 @@ pub enum Answer {
     Room(usize),
 }
 
+impl Answer {
+    // Its number: 0, 1, 3 or 4.
+    pub fn number(self) -> u32
+        ensures { result ≡ (numbers_of self).number }
+    {
+        match self {
+            Answer::Written { .. } => 0,
+            Answer::Shape => 1,
+            Answer::Leaf(_) => 3,
+            Answer::Room(_) => 4,
+        }
+    }
+
+    // The number beside it.
+    pub fn second(self) -> usize
+        ensures { result ≡ (numbers_of self).second }
+    {
+        match self {
+            Answer::Written { size, .. } => size,
+            Answer::Shape => 0,
+            Answer::Leaf(n) | Answer::Room(n) => n,
+        }
+    }
+
+    // The level of the leaf that was written; 0 where it is refused.
+    pub fn level(self) -> u32
+        ensures { result ≡ (pair_of self).level }
+    {
+        match self {
+            Answer::Written { level, .. } => level,
+            _ => 0,
+        }
+    }
+
+    // Its index; 0 where it is refused.
+    pub fn index(self) -> u32
+        ensures { result ≡ (pair_of self).index }
+    {
+        match self {
+            Answer::Written { index, .. } => index,
+            _ => 0,
+        }
+    }
+}
+
 // The order of the leaves by age, which is refused where number 1 is due before a leaf is read.
-fn order_of(columns: u32, leaves: &[u8], ends: &[u32], levels: &[u32], indexes: &[u32]) -> Order
-    ensures shape { (result.ok ≡ true) ↔ ShapeRight (record { columns = columns; leaves = leaves.now; leaf_ends = ends.now; levels = levels.now; indexes = indexes.now }) }
-    ensures order { result.ok ≡ true → Ordered levels.now indexes.now (length ends.now) result }
+fn order_of(
+    columns: u32,
+    leaves: &[u8],
+    ends: &[u32],
+    levels: &[u32],
+    indexes: &[u32],
+) -> Option<[u8; 8]>
+    ensures shape { IsSome result ↔ ShapeRight (record { columns = columns; leaves = leaves.now; leaf_ends = ends.now; levels = levels.now; indexes = indexes.now }) }
+    ensures order { IfSome result (OrderPlaced levels.now indexes.now) }
 {
-    let refused = Order {
-        ok: false,
-        places: [0u8; 8],
-    };
     if columns == 0 {
-        return refused;
+        return None;
     }
     if (common::MAX_COLUMNS as u32) < columns {
-        return refused;
+        return None;
     }
     if ends.len() == 0 {
-        return refused;
+        return None;
     }
     if common::MAX_INDEX_BYTES < leaves.len() {
-        return refused;
+        return None;
     }
     if !offsets::is_cut(leaves, ends) {
-        return refused;
+        return None;
     }
     directory::newest_first(levels, indexes, ends.len())
 }
@@ -83,16 +128,14 @@ fn merge_with(
     ensures { MergesTo keep (record { columns = columns; leaves = leaves.now; leaf_ends = ends.now; levels = levels.now; indexes = indexes.now }) (length room.old) result room.new }
 {
     storing::clear(room);
-    let order = order_of(columns, leaves, ends, levels, indexes);
-    if !order.ok {
+    let Some(places) = order_of(columns, leaves, ends, levels, indexes) else {
         return Answer::Shape;
-    }
+    };
     let count = ends.len();
     let sound = search::sound_leaves(leaves, ends, columns);
     if sound < count {
         return Answer::Leaf(sound);
     }
-    let places = order.places;
     let need = words::put_terms(room, keep, leaves, ends, &places[0..count]);
     if common::MAX_INDEX_BYTES < need {
         storing::clear(room);

@@ -13,7 +13,7 @@ ghost use Rattle.merge.specs.Words.{every_word};
 ghost use Rattle.merge.specs.Terms.{TermPut, TermAt, StoredFrame, WordAdded, WordTaken, Steps, LoneSteps, Runs, Rounds, TermsPut};
 
 use common::{MAX_INDEX_BYTES, MAX_LEAVES};
-use opening::{Front, Lead, WordLists};
+use opening::{Front, Lead, Leaves, Text, WordLists};
 
 // A compiled query has so many bytes and words.
 const QUERY_BYTES: usize = 512;
@@ -22,6 +22,17 @@ const QUERY_WORDS: usize = 16;
 
 // No index has so many words: a word takes at least six bytes.
 const MAX_STEPS: usize = 65537;
+
+// What is merged: leaves that are lent together with their ends, and their order by age, by the query that every word matches. Deletions are
+// kept or dropped.
+#[derive(Clone, Copy)]
+struct Lent<'a> {
+    keep: bool,
+    text: &'a [u8],
+    stops: &'a [u16],
+    marks: &'a [u8],
+    leaves: Leaves<'a>,
+}
 
 // The cursors of one word's lists, newest leaf first.
 #[derive(Clone, Copy)]
@@ -60,10 +71,10 @@ struct Stepped {
     stored: Stored,
 }
 
-// The same where one leaf goes on alone, if it did.
+// The same where one leaf goes on alone. Two types, here and below, and no generic one: the definitions `Steps` and `Rounds` speak of the fronts of
+// all leaves, `LoneSteps` and `Runs` of the lead of one.
 #[derive(Drop)]
 struct LoneStep {
-    found: bool,
     lead: Lead,
     stored: Stored,
 }
@@ -85,34 +96,30 @@ struct Round {
 }
 
 // Puts the merge of a word's lists at the front of the room, if it is to be written and fits. How many bytes it takes.
-fn put_list(out: &mut [u8], write: bool, keep: bool, leaves: &[u8], lists: Lists) -> usize
-    ensures { ListPut write keep leaves.now lists.docids lists.bodies lists.lasts lists.masks lists.follows lists.n out.old out.new result }
+fn put_list(out: &mut [u8], write: bool, lent: Lent<'_>, lists: Lists) -> usize
+    ensures { ListPut write lent.entry.keep lent.entry.leaves.bytes.now lists.docids lists.bodies lists.lasts lists.masks lists.follows lists.n out.old out.new result }
 {
-    let docids = lists.docids;
-    let bodies = lists.bodies;
-    let lasts = lists.lasts;
-    let masks = lists.masks;
-    let follows = lists.follows;
-    let n = lists.n;
     postings::put_list(
-        out, write, keep, leaves, docids, bodies, lasts, masks, follows, n,
+        out,
+        write,
+        lent.keep,
+        lent.leaves.bytes,
+        lists.docids,
+        lists.bodies,
+        lists.lasts,
+        lists.masks,
+        lists.follows,
+        lists.n,
     )
 }
 
 // Puts a word after the word `before`, with the merge of its lists, at the front of the room, if it fits. How many bytes it takes: 0 where
 // the merge has no entry.
-fn put_term(
-    out: &mut [u8],
-    keep: bool,
-    leaves: &[u8],
-    before: &[u8],
-    word: &[u8],
-    lists: Lists,
-) -> usize
+fn put_term(out: &mut [u8], lent: Lent<'_>, before: &[u8], word: &[u8], lists: Lists) -> usize
     requires { length word.now ≤ max_word }
-    ensures { TermPut keep leaves.now before.now word.now lists out.old out.new result }
+    ensures { TermPut lent.entry.keep lent.entry.leaves.bytes.now before.now word.now lists out.old out.new result }
 {
-    let list = put_list(out, false, keep, leaves, lists);
+    let list = put_list(out, false, lent, lists);
     if list == 0 {
         return 0;
     }
@@ -122,63 +129,47 @@ fn put_term(
     }
     let mut at = storing::put_word(out, before, word);
     at += storing::put_number(&mut out[at..], list as u64);
-    put_list(&mut out[at..], true, keep, leaves, lists);
+    put_list(&mut out[at..], true, lent, lists);
     size
-}
-
-// A place in a room of `len` bytes, or its end.
-fn within(at: usize, len: usize) -> usize
-    ensures { (result ≤ len) × (at ≤ len → result ≡ at) }
-{
-    if len < at {
-        return len;
-    }
-    at
 }
 
 // The same at the place `at` of the room. Nothing fits at its end.
 fn put_term_at(
     out: &mut [u8],
     at: usize,
-    keep: bool,
-    leaves: &[u8],
+    lent: Lent<'_>,
     before: &[u8],
     word: &[u8],
     lists: Lists,
 ) -> usize
     requires { length word.now ≤ max_word }
-    ensures { TermAt keep leaves.now before.now word.now lists at out.old out.new result }
+    ensures { TermAt lent.entry.keep lent.entry.leaves.bytes.now before.now word.now lists at out.old out.new result }
 {
-    let from = within(at, out.len());
-    put_term(&mut out[from..], keep, leaves, before, word, lists)
+    let from = at.min(out.len());
+    put_term(&mut out[from..], lent, before, word, lists)
 }
 
 // Adds a word with its lists to what is stored.
 fn add_word(
     out: &mut [u8],
-    keep: bool,
-    leaves: &[u8],
+    lent: Lent<'_>,
     stored: Stored,
     word: [u8; 64],
     size: usize,
     lists: Lists,
 ) -> Stored
     requires { (stored.size ≤ max_word) × (stored.at ≤ max_index_bytes) × (size ≤ max_word) }
-    ensures { WordAdded keep leaves.now stored word size lists out.old out.new result }
+    ensures { WordAdded lent.entry.keep lent.entry.leaves.bytes.now stored word size lists out.old out.new result }
 {
-    let before = stored.word;
-    let b = stored.size;
-    let at = stored.at;
-    let more = put_term_at(out, at, keep, leaves, &before[..b], &word[..size], lists);
+    let before = &stored.word[..stored.size];
+    let more = put_term_at(out, stored.at, lent, before, &word[..size], lists);
     if more == 0 {
         return Stored {
-            word: before,
-            size: b,
-            at,
             more: true,
+            ..stored
         };
     }
-    let end = at + more;
+    let end = stored.at + more;
     Stored {
         word,
         size,
@@ -188,30 +179,23 @@ fn add_word(
 }
 
 // Takes the next word from all leaves that have it.
-fn take(
-    text: &[u8],
-    stops: &[u16],
-    marks: &[u8],
-    leaves: &[u8],
-    ends: &[u32],
-    order: &[u8],
-    fronts: [Front; MAX_LEAVES],
-) -> Taken
-    ensures { WordTaken text.now stops.now marks.now leaves.now ends.now order.now fronts result }
+fn take(lent: Lent<'_>, fronts: [Front; MAX_LEAVES]) -> Taken
+    ensures { WordTaken lent.entry.text.now lent.entry.stops.now lent.entry.marks.now lent.entry.leaves.bytes.now lent.entry.leaves.ends.now lent.entry.leaves.order.now fronts result }
 {
     let mut docids = [0u64; MAX_LEAVES];
     let mut bodies = [0u16; MAX_LEAVES];
     let mut lasts = [0u16; MAX_LEAVES];
     let mut masks = [0u16; MAX_LEAVES];
     let mut follows = [0u8; MAX_LEAVES];
+    let every = Text {
+        bytes: lent.text,
+        stops: lent.stops,
+        marks: lent.marks,
+        count: 1,
+    };
     let next = opening::next_word(
-        text,
-        stops,
-        marks,
-        1,
-        leaves,
-        ends,
-        order,
+        every,
+        lent.leaves,
         fronts,
         &mut docids,
         &mut bodies,
@@ -231,39 +215,25 @@ fn take(
 }
 
 // Takes the next word and adds it.
-fn step(
-    out: &mut [u8],
-    keep: bool,
-    text: &[u8],
-    stops: &[u16],
-    marks: &[u8],
-    leaves: &[u8],
-    ends: &[u32],
-    order: &[u8],
-    fronts: [Front; MAX_LEAVES],
-    stored: Stored,
-) -> Stepped
+fn step(out: &mut [u8], lent: Lent<'_>, fronts: [Front; MAX_LEAVES], stored: Stored) -> Stepped
     requires { (stored.size ≤ max_word) × (stored.at ≤ max_index_bytes) }
-    ensures { Steps keep text.now stops.now marks.now leaves.now ends.now order.now fronts stored out.old out.new result }
+    ensures { Steps lent.entry.keep lent.entry.text.now lent.entry.stops.now lent.entry.marks.now lent.entry.leaves.bytes.now lent.entry.leaves.ends.now lent.entry.leaves.order.now fronts stored out.old out.new result }
 {
-    let taken = take(text, stops, marks, leaves, ends, order, fronts);
+    let taken = take(lent, fronts);
     let next = taken.next;
     let word = next.word;
     let rest = next.fronts;
     if next.n == 0 {
-        let last = stored.word;
         return Stepped {
             fronts: rest,
             stored: Stored {
-                word: last,
-                size: stored.size,
-                at: stored.at,
                 more: false,
+                ..stored
             },
         };
     }
     let lists = taken.lists;
-    let added = add_word(out, keep, leaves, stored, word, next.size, lists);
+    let added = add_word(out, lent, stored, word, next.size, lists);
     Stepped {
         fronts: rest,
         stored: added,
@@ -271,48 +241,31 @@ fn step(
 }
 
 // Takes the next word of the leaf that leads and adds it, if no other leaf has it or one before it.
-fn lone_step(
-    out: &mut [u8],
-    keep: bool,
-    text: &[u8],
-    stops: &[u16],
-    marks: &[u8],
-    leaves: &[u8],
-    ends: &[u32],
-    order: &[u8],
-    lead: Lead,
-    stored: Stored,
-) -> LoneStep
+fn lone_step(out: &mut [u8], lent: Lent<'_>, lead: Lead, stored: Stored) -> Option<LoneStep>
     requires { (stored.size ≤ max_word) × (stored.at ≤ max_index_bytes) }
-    ensures { LoneSteps keep text.now stops.now marks.now leaves.now ends.now order.now lead stored out.old out.new result }
+    ensures { LoneSteps lent.entry.keep lent.entry.text.now lent.entry.stops.now lent.entry.marks.now lent.entry.leaves.bytes.now lent.entry.leaves.ends.now lent.entry.leaves.order.now lead stored out.old out.new result }
 {
     let mut docids = [0u64; MAX_LEAVES];
     let mut bodies = [0u16; MAX_LEAVES];
     let mut lasts = [0u16; MAX_LEAVES];
     let mut masks = [0u16; MAX_LEAVES];
     let mut follows = [0u8; MAX_LEAVES];
+    let every = Text {
+        bytes: lent.text,
+        stops: lent.stops,
+        marks: lent.marks,
+        count: 1,
+    };
     let lone = opening::take_alone(
-        text,
-        stops,
-        marks,
-        1,
-        leaves,
-        ends,
-        order,
+        every,
+        lent.leaves,
         lead,
         &mut docids,
         &mut bodies,
         &mut lasts,
         &mut masks,
         &mut follows,
-    );
-    if !lone.found {
-        return LoneStep {
-            found: false,
-            lead,
-            stored,
-        };
-    }
+    )?;
     let lists = Lists {
         docids,
         bodies,
@@ -323,44 +276,26 @@ fn lone_step(
     };
     let word = lone.word;
     let rest = lone.lead;
-    let added = add_word(out, keep, leaves, stored, word, lone.size, lists);
-    LoneStep {
-        found: true,
+    let added = add_word(out, lent, stored, word, lone.size, lists);
+    Some(LoneStep {
         lead: rest,
         stored: added,
-    }
+    })
 }
 
 // Adds the words of the leaf that leads, up to the first that another leaf may have or come before.
-fn go_alone(
-    out: &mut [u8],
-    keep: bool,
-    text: &[u8],
-    stops: &[u16],
-    marks: &[u8],
-    leaves: &[u8],
-    ends: &[u32],
-    order: &[u8],
-    first: Lead,
-    from: Stored,
-    most: usize,
-) -> Run
+fn go_alone(out: &mut [u8], lent: Lent<'_>, first: Lead, from: Stored, most: usize) -> Run
     requires { StoredFrame from }
-    ensures { Runs keep text.now stops.now marks.now leaves.now ends.now order.now first from most out.old out.new result }
+    ensures { Runs lent.entry.keep lent.entry.text.now lent.entry.stops.now lent.entry.marks.now lent.entry.leaves.bytes.now lent.entry.leaves.ends.now lent.entry.leaves.order.now first from most out.old out.new result }
 {
     let mut lead = first;
     let mut stored = from;
     let mut left = most;
-    while stored.more {
-        if left == 0 {
+    // How many steps are left is answered too: no loop over a range.
+    while stored.more && 0 < left {
+        let Some(taken) = lone_step(out, lent, lead, stored) else {
             break;
-        }
-        let taken = lone_step(
-            out, keep, text, stops, marks, leaves, ends, order, lead, stored,
-        );
-        if !taken.found {
-            break;
-        }
+        };
         lead = taken.lead;
         stored = taken.stored;
         left -= 1;
@@ -371,24 +306,16 @@ fn go_alone(
 // Adds the words that the next leaf has alone; where there is none, the next word of all leaves.
 fn go_on(
     out: &mut [u8],
-    keep: bool,
-    text: &[u8],
-    stops: &[u16],
-    marks: &[u8],
-    leaves: &[u8],
-    ends: &[u32],
-    order: &[u8],
+    lent: Lent<'_>,
     fronts: [Front; MAX_LEAVES],
     stored: Stored,
     left: usize,
 ) -> Round
     requires { StoredFrame stored × (stored.more ≡ true) × (0 < left) }
-    ensures { Rounds keep text.now stops.now marks.now leaves.now ends.now order.now fronts stored left out.old out.new result }
+    ensures { Rounds lent.entry.keep lent.entry.text.now lent.entry.stops.now lent.entry.marks.now lent.entry.leaves.bytes.now lent.entry.leaves.ends.now lent.entry.leaves.order.now fronts stored left out.old out.new result }
 {
-    let lead = opening::lead_of(fronts, order.len(), leaves.len());
-    let ran = go_alone(
-        out, keep, text, stops, marks, leaves, ends, order, lead, stored, left,
-    );
+    let lead = opening::lead_of(fronts, lent.leaves.order.len(), lent.leaves.bytes.len());
+    let ran = go_alone(out, lent, lead, stored, left);
     let passed = ran.lead;
     let held = ran.stored;
     let rest = opening::with_lead(fronts, passed);
@@ -406,9 +333,7 @@ fn go_on(
             left: 0,
         };
     }
-    let next = step(
-        out, keep, text, stops, marks, leaves, ends, order, rest, held,
-    );
+    let next = step(out, lent, rest, held);
     let fronts = next.fronts;
     let stored = next.stored;
     Round {
@@ -419,19 +344,16 @@ fn go_on(
 }
 
 // Merges the leaves by the query that every word matches.
-fn put_words(
-    out: &mut [u8],
-    keep: bool,
-    text: &[u8],
-    stops: &[u16],
-    marks: &[u8],
-    leaves: &[u8],
-    ends: &[u32],
-    order: &[u8],
-) -> usize
-    ensures { TextIs text.now stops.now marks.now 1 every_word → TermsPut keep leaves.now ends.now order.now out.old out.new result }
+fn put_words(out: &mut [u8], lent: Lent<'_>) -> usize
+    ensures { TextIs lent.entry.text.now lent.entry.stops.now lent.entry.marks.now 1 every_word → TermsPut lent.entry.keep lent.entry.leaves.bytes.now lent.entry.leaves.ends.now lent.entry.leaves.order.now out.old out.new result }
 {
-    let mut fronts = opening::begin(text, stops, marks, 1, leaves, ends, order);
+    let every = Text {
+        bytes: lent.text,
+        stops: lent.stops,
+        marks: lent.marks,
+        count: 1,
+    };
+    let mut fronts = opening::begin(every, lent.leaves);
     let mut stored = Stored {
         word: [0u8; 64],
         size: 0,
@@ -439,13 +361,8 @@ fn put_words(
         more: true,
     };
     let mut left = MAX_STEPS;
-    while stored.more {
-        if left == 0 {
-            return stored.at;
-        }
-        let next = go_on(
-            out, keep, text, stops, marks, leaves, ends, order, fronts, stored, left,
-        );
+    while stored.more && 0 < left {
+        let next = go_on(out, lent, fronts, stored, left);
         fronts = next.fronts;
         stored = next.stored;
         left = next.left;
@@ -468,5 +385,16 @@ pub(crate) fn put_terms(
     let stops = [0u16; QUERY_WORDS];
     let mut marks = [0u8; QUERY_WORDS];
     marks[0] = 1;
-    put_words(out, keep, &text, &stops, &marks, leaves, ends, order)
+    let lent = Lent {
+        keep,
+        text: &text,
+        stops: &stops,
+        marks: &marks,
+        leaves: Leaves {
+            bytes: leaves,
+            ends,
+            order,
+        },
+    };
+    put_words(out, lent)
 }

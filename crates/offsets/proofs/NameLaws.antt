@@ -4,6 +4,7 @@ use native.Mathlib.Nat.{not-suc-le-zero, le_of_suc-le-suc}
 use native.Mathlib.Omega.{arith}
 use mathlib.Core.Path.{◌≡◌, refl, sym, ap, ◌∙◌, subst}
 use mathlib.Core.Logic.{◌↔◌}
+use Rattle.std.specs.Prelude.{Some}
 use mathlib.Core.Bool.{true, false, not}
 use mathlib.Core.List.{List, [], ◌∷◌, map}
 use lib.Dec.{leb}
@@ -20,7 +21,6 @@ use Rattle.common.specs.Bounds.{max_columns}
 use Rattle.tokenizer.specs.Word.{fold}
 use Rattle.offsets.specs.Cut.{cuts, Cuts, cut}
 use Rattle.offsets.specs.Names.{max_name, is_name_byte, name_bytes, is_name, same_name, column_from, column_of, ColumnIs, each_name, is_new, all_distinct, names_ok, Names}
-use Rattle.offsets.specs.declared.Column.TheVariants.{At}
 use Rattle.offsets.proofs.Cuts.{cuts_rules, rules_cuts, length_cut}
 
 -- ---- two names
@@ -57,40 +57,40 @@ found_further a n ns name i e f =
     first zero h = other_name n name e
     first (suc j) h = f.column.first j (le_of_suc-le-suc h)
 
-column_sound : (a : ℕ) (ns : List (List ℕ)) (name : List ℕ) (i : ℕ) → column_from a ns name ≡ At i → FirstNamed a ns name i
+column_sound : (a : ℕ) (ns : List (List ℕ)) (name : List ℕ) (i : ℕ) → column_from a ns name ≡ Some i → FirstNamed a ns name i
 unfolding column_from
 column_sound a [] name i e = let z : ◌≡◌ {A = ℕ} 0 1 = cc in absurd (omega arith)
 column_sound a (n ∷ ns) name i e =
     bool_case (same_name n name)
     (λ t.
-    let k : At a ≡ At i = sym (ap (λ b. pick b (At a) (column_from (suc a) ns name)) t) ∙ e in
+    let k : Some a ≡ Some i = sym (ap (λ b. pick b (Some a) (column_from (suc a) ns name)) t) ∙ e in
     let l : a ≡ i = cc in
     record { at = 0; place = omega arith; column = record { inside = omega arith; same = same_name_lem n name t; first = λ j h. absurd (not-suc-le-zero h) } })
-    (λ t. found_further a n ns name i t (column_sound (suc a) ns name i (sym (ap (λ b. pick b (At a) (column_from (suc a) ns name)) t) ∙ e)))
+    (λ t. found_further a n ns name i t (column_sound (suc a) ns name i (sym (ap (λ b. pick b (Some a) (column_from (suc a) ns name)) t) ∙ e)))
 
-column_complete : (a : ℕ) (ns : List (List ℕ)) (name : List ℕ) (k : ℕ) → ColumnIs ns name k → column_from a ns name ≡ At (a + k)
+column_complete : (a : ℕ) (ns : List (List ℕ)) (name : List ℕ) (k : ℕ) → ColumnIs ns name k → column_from a ns name ≡ Some (a + k)
 unfolding column_from
 column_complete a [] name k c = absurd (not-suc-le-zero c.inside)
 column_complete a (n ∷ ns) name zero c =
     let z : a + 0 ≡ a = omega arith in
-    rw z (ap (λ b. pick b (At a) (column_from (suc a) ns name)) (name_same n name c.same))
+    rw z (ap (λ b. pick b (Some a) (column_from (suc a) ns name)) (name_same n name c.same))
 column_complete a (n ∷ ns) name (suc k) c =
     let z : a + suc k ≡ suc a + k = omega arith in
-    rw z (ap (λ b. pick b (At a) (column_from (suc a) ns name)) (name_other n name (c.first 0 (omega arith)))
+    rw z (ap (λ b. pick b (Some a) (column_from (suc a) ns name)) (name_other n name (c.first 0 (omega arith)))
     ∙ column_complete (suc a) ns name k (record { inside = le_of_suc-le-suc c.inside; same = c.same; first = λ j h. c.first (suc j) (omega arith) }))
 
 -- a column is found exactly by the rule
-pub column_law : (names : List (List ℕ)) (name : List ℕ) (i : ℕ) → (column_of names name ≡ At i) ↔ ColumnIs names name i
+pub column_law : (names : List (List ℕ)) (name : List ℕ) (i : ℕ) → (column_of names name ≡ Some i) ↔ ColumnIs names name i
 column_law names name i = (to, from)
   where
-    to : column_of names name ≡ At i → ColumnIs names name i
+    to : column_of names name ≡ Some i → ColumnIs names name i
     to e =
         let f = column_sound 0 names name i e in
         let p : f.at ≡ i = let q = f.place in omega arith in
         subst (ColumnIs names name) p f.column
 
-    from : ColumnIs names name i → column_of names name ≡ At i
-    from c = let z : 0 + i ≡ i = omega arith in column_complete 0 names name i c ∙ ap At z
+    from : ColumnIs names name i → column_of names name ≡ Some i
+    from c = let z : 0 + i ≡ i = omega arith in column_complete 0 names name i c ∙ ap Some z
 
 -- whether a name is new does not depend on where the search starts
 pub new_anywhere : (a b : ℕ) (ns : List (List ℕ)) (name : List ℕ) → is_new (column_from a ns name) ≡ is_new (column_from b ns name)

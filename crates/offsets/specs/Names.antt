@@ -1,13 +1,11 @@
 -- Column names (document 01, "How things are lent"): 1 to 16 of them; a name has 1 to 32 ASCII letters, digits or `_`;
 -- no two are equal when ASCII case is ignored. A column is found by its name, ASCII case ignored.
-use Rattle.std.specs.Prelude.{ℕ, suc, ◌≤◌, ◌<◌, ◌≡◌, Bool, true, false, List, [], ◌∷◌, map, length, get_or, eqb, ltb}
+use Rattle.std.specs.Prelude.{ℕ, suc, ◌≤◌, ◌<◌, ◌≡◌, Bool, true, false, Option, None, Some, List, [], ◌∷◌, map, length, get_or, eqb, ltb}
 use Rattle.common.specs.Pick.{pick, both, either}
 use Rattle.common.specs.Bytes.{within, same}
 use Rattle.common.specs.Bounds.{max_columns}
 use Rattle.tokenizer.specs.Word.{is_word, fold}
 use Rattle.offsets.specs.Cut.{cuts, cut}
-use Rattle.offsets.specs.declared.Column.{Column}
-use Rattle.offsets.specs.declared.Column.TheVariants.{At, Unknown}
 
 abbrev pub max_name : ℕ
 max_name = 32
@@ -32,11 +30,11 @@ same_name m n = same (map fold m) (map fold n)
 -- ---- finding a column
 
 -- the first of the names from number `i` on that is `name`
-unfoldable pub column_from : ℕ → List (List ℕ) → List ℕ → Column
-column_from i [] name = Unknown
-column_from i (n ∷ ns) name = pick (same_name n name) (At i) (column_from (suc i) ns name)
+unfoldable pub column_from : ℕ → List (List ℕ) → List ℕ → Option ℕ
+column_from i [] name = None
+column_from i (n ∷ ns) name = pick (same_name n name) (Some i) (column_from (suc i) ns name)
 
-abbrev pub column_of : List (List ℕ) → List ℕ → Column
+abbrev pub column_of : List (List ℕ) → List ℕ → Option ℕ
 column_of names name = column_from 0 names name
 
 -- the same, rule by rule: column number `i` has the name, and none before it has
@@ -52,9 +50,9 @@ each_name [] = true
 each_name (n ∷ ns) = both (is_name n) (each_name ns)
 
 -- whether a search found no such name
-abbrev pub is_new : Column → Bool
-is_new Unknown = true
-is_new (At i) = false
+abbrev pub is_new : Option ℕ → Bool
+is_new None = true
+is_new (Some i) = false
 
 -- whether no name is found again among the later ones: no two are equal when ASCII case is ignored
 unfoldable pub all_distinct : List (List ℕ) → Bool

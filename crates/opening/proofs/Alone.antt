@@ -1,5 +1,6 @@
 -- A word that one leaf alone has: the lead's, where it comes before the rival's. It is the least (`alone_least`), no other front has it, and the
 -- pass over all leaves takes it from this one only (`alone_taken`).
+use Rattle.std.specs.Prelude.{None}
 use Prim.Native.Nat.{ℕ, zero, suc, ◌+◌, ◌-◌, ◌≤◌, ◌<◌}
 use native.Mathlib.Omega.{arith}
 use mathlib.Core.Path.{◌≡◌, sym, ap, ◌∙◌, subst}
@@ -16,7 +17,7 @@ use Rattle.leaf.proofs.Words.{before_irrefl, before_trans}
 use Rattle.lexer.specs.Token.{Node}
 use Rattle.cursors.specs.Arrays.{Cursor}
 use Rattle.opening.specs.Opening.{Arrays}
-use Rattle.opening.specs.Fronts.{front_word, skip_to, FrontIs, is_earlier, has_word, front_at, no_front, LeastIs, head_lists, leaf_at, base_at, FrontsAre, HasPlace, with_cursor, WordTaken}
+use Rattle.opening.specs.Fronts.{front_word, skip_to, FrontIs, is_earlier, has_word, front_at, no_front, Least, LeastIs, head_lists, leaf_at, base_at, FrontsAre, HasPlace, with_cursor, WordTaken}
 use Rattle.opening.specs.Walking.{AllNoneBefore, LeastTaken, with_lead, Foremost, LeadIs}
 use Rattle.opening.specs.declared.Front.{Front}
 use Rattle.opening.specs.declared.Lead.{Lead}
@@ -56,13 +57,12 @@ module _ (fronts : List Front) (m : ℕ) (lead : Lead) (inside : lead.at < m) (l
   other_after : (j : ℕ) → j < m → (j ≡ lead.at → ⊥) → ((front_at fronts j).mask ≡ 0 → ⊥) → Before (front_word lead.front) (front_word lead.rival)
   other_after j h ne s = earlier_before lead.front lead.rival e (rival.each j h ne s).0
 
-  pub alone_least : LeastIs all m lead.at
+  pub alone_least : Least all m lead.at
   alone_least =
       record {
-        within = omega arith;
-        none = λ q. absurd (omega arith);
-        some = λ _ z. some (ap (λ (f : Front). f.mask) (sym at_lead) ∙ z);
-        least = λ _ j h s b.
+        within = inside;
+        some = λ z. some (ap (λ (f : Front). f.mask) (sym at_lead) ∙ z);
+        least = λ j h s b.
             same_or j lead.at
             (λ q. before_irrefl (front_word lead.front) (subst (λ (f : Front). Before (front_word f) (front_word lead.front)) (ap (front_at all) q ∙ at_lead) (subst (λ (f : Front). Before (front_word (front_at all j)) (front_word f)) at_lead b)))
             (λ ne.
@@ -118,10 +118,10 @@ module _ (fronts : List Front) (m : ℕ) (lead : Lead) (inside : lead.at < m) (l
 
     pub alone_taken : LeastTaken nodes columns bytes ends order after left (record { fronts = set fronts lead.at next; n = 1; word = lead.front.word; size = lead.front.size })
     alone_taken =
-        let l = subst (λ (k : ℕ). LeastIs all k lead.at) (sym same_count) alone_least in
+        let l = subst (λ (k : ℕ). Least all k lead.at) (sym same_count) alone_least in
         record {
-          least = subst (λ (f : Front). AllNoneBefore columns (front_word f) left) at_lead (least_first nodes columns bytes ends order all left are lead.at l (omega arith));
-          some = subst (λ (f : Front). 0 < length (head_lists (front_word f) left)) at_lead (some_list nodes columns bytes ends order all left are lead.at l (omega arith));
+          least = subst (λ (f : Front). AllNoneBefore columns (front_word f) left) at_lead (least_first nodes columns bytes ends order all left are lead.at l);
+          some = subst (λ (f : Front). 0 < length (head_lists (front_word f) left)) at_lead (some_list nodes columns bytes ends order all left are lead.at l);
           taken =
               subst (λ (fs : List Front). WordTaken nodes columns (front_word lead.front) bytes ends order after left [] (record { fronts = fs; n = 1 }))
               (set-set fronts lead.at lead.front next)
@@ -130,36 +130,35 @@ module _ (fronts : List Front) (m : ℕ) (lead : Lead) (inside : lead.at < m) (l
 
 -- ---- the lead of all leaves
 
-module _ (fronts : List Front) (m at : ℕ) (l : LeastIs fronts m at) (none : Front) (z : none.mask ≡ 0) where
-  pub lead_nobody : length fronts ≡ max_leaves → m ≤ at → LeadIs fronts m (record { at = max_leaves; front = none; rival = none })
+module _ (fronts : List Front) (m : ℕ) (none : Front) (z : none.mask ≡ 0) where
+  pub lead_nobody : length fronts ≡ max_leaves → LeastIs fronts m None → LeadIs fronts m (record { at = max_leaves; front = none; rival = none })
   lead_nobody long h =
-      let no : (j : ℕ) → j < m → ((front_at fronts j).mask ≡ 0 → ⊥) → ⊥ = λ j i s. s (l.none (omega (arith, l.within)) j i) in
       record {
         here = set_out fronts max_leaves none (omega arith);
-        first = record { each = λ j i _ s. absurd (no j i s) };
-        rival_first = record { each = λ j i _ s. absurd (no j i s) };
+        first = record { each = λ j i _ s. absurd (s (h j i)) };
+        rival_first = record { each = λ j i _ s. absurd (s (h j i)) };
         rival_one = λ s. absurd (s z);
       }
 
-  module _ (h : at < m) (long : m ≤ length fronts) (second : ℕ) (l₂ : LeastIs (set fronts at none) m second) where
+  module _ (at : ℕ) (l : Least fronts m at) (long : m ≤ length fronts) where
     first_of : Foremost fronts m m (front_at fronts at)
-    first_of = record { each = λ j i _ s. (l.some h, l.least h j i s) }
+    first_of = record { each = λ j i _ s. (l.some, l.least j i s) }
 
     others_at : (j : ℕ) → (j ≡ at → ⊥) → front_at (set fronts at none) j ≡ front_at fronts j
     others_at j ne = get_or-set_other fronts at j none no_front ne
 
-    pub lead_only : m ≤ second → LeadIs fronts m (record { at = at; front = front_at fronts at; rival = none })
+    pub lead_only : LeastIs (set fronts at none) m None → LeadIs fronts m (record { at = at; front = front_at fronts at; rival = none })
     lead_only k =
         record {
           here = set-get_or fronts at no_front;
           first = first_of;
-          rival_first = record { each = λ j i ne s. absurd (s (ap (λ (f : Front). f.mask) (sym (others_at j ne)) ∙ l₂.none (omega (arith, l₂.within)) j i)) };
+          rival_first = record { each = λ j i ne s. absurd (s (ap (λ (f : Front). f.mask) (sym (others_at j ne)) ∙ k j i)) };
           rival_one = λ s. absurd (s z);
         }
 
-    pub lead_and_rival : second < m → LeadIs fronts m (record { at = at; front = front_at fronts at; rival = front_at (set fronts at none) second })
-    lead_and_rival k =
-        let ne : second ≡ at → ⊥ = λ q. l₂.some k (ap (λ (f : Front). f.mask) (ap (front_at (set fronts at none)) q ∙ get_or-set_same fronts at none no_front (omega arith)) ∙ z) in
+    pub lead_and_rival : (second : ℕ) → Least (set fronts at none) m second → LeadIs fronts m (record { at = at; front = front_at fronts at; rival = front_at (set fronts at none) second })
+    lead_and_rival second l₂ =
+        let ne : second ≡ at → ⊥ = λ q. l₂.some (ap (λ (f : Front). f.mask) (ap (front_at (set fronts at none)) q ∙ get_or-set_same fronts at none no_front (omega (arith, l.within))) ∙ z) in
         record {
           here = set-get_or fronts at no_front;
           first = first_of;
@@ -167,9 +166,9 @@ module _ (fronts : List Front) (m at : ℕ) (l : LeastIs fronts m at) (none : Fr
               record {
                 each = λ j i ne s.
                     let o = others_at j ne in (
-                      l₂.some k,
-                      λ b. l₂.least k j i (λ y. s (ap (λ (f : Front). f.mask) (sym o) ∙ y)) (subst (λ (f : Front). Before (front_word f) (front_word (front_at (set fronts at none) second))) (sym o) b),
+                      l₂.some,
+                      λ b. l₂.least j i (λ y. s (ap (λ (f : Front). f.mask) (sym o) ∙ y)) (subst (λ (f : Front). Before (front_word f) (front_word (front_at (set fronts at none) second))) (sym o) b),
                     );
               };
-          rival_one = λ _. (second, k, ne, others_at second ne);
+          rival_one = λ _. (second, l₂.within, ne, others_at second ne);
         }

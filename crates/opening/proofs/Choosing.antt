@@ -1,4 +1,5 @@
 -- The search for the least front: what holds when `j` fronts were looked at (`Choosing`), and at the end (`chosen`).
+use Rattle.std.specs.Prelude.{Option, Some, None}
 use Prim.Native.Nat.{ℕ, ◌+◌, ◌≤◌, ◌<◌}
 use native.Mathlib.Omega.{arith}
 use mathlib.Core.Path.{◌≡◌, refl, sym, ap, ◌∙◌, subst}
@@ -30,45 +31,37 @@ later_not f g e h = (other, λ b. false_not_true (sym e ∙ rw (ne_eqb f.mask 0 
 
 -- ---- the search
 
-pub record Choosing (fronts : List Front) (m best : ℕ) (front : Front) (j : ℕ) : Type 0 where
+pub record Choosing (fronts : List Front) (best : Option ℕ) (front : Front) (j : ℕ) : Type 0 where
   pub sized : front.size ≤ 64
-  pub none : front.mask ≡ 0 → (best ≡ m) × ((k : ℕ) → k < j → (front_at fronts k).mask ≡ 0)
+  pub none : front.mask ≡ 0 → (best ≡ None) × ((k : ℕ) → k < j → (front_at fronts k).mask ≡ 0)
   pub some : (front.mask ≡ 0 → ⊥)
-      → (best < j) × (front ≡ front_at fronts best) × ((k : ℕ) → k < j → ((front_at fronts k).mask ≡ 0 → ⊥) → Before (front_word (front_at fronts k)) (front_word front) → ⊥)
+      → (r : ℕ) × (best ≡ Some r) × (r < j) × (front ≡ front_at fronts r) × ((k : ℕ) → k < j → ((front_at fronts k).mask ≡ 0 → ⊥) → Before (front_word (front_at fronts k)) (front_word front) → ⊥)
 
-pub choosing_start : (fronts : List Front) (m : ℕ) (front : Front) → front.mask ≡ 0 → front.size ≡ 0 → Choosing fronts m m front 0
-choosing_start fronts m front z s =
-    record { sized = omega arith; none = λ _. (refl, λ k h. absurd (omega arith)); some = λ h. absurd (h z) }
-
-module _ (fronts : List Front) (m best : ℕ) (front : Front) (j : ℕ) (c : Choosing fronts m best front j) (other : Front) (o : other ≡ front_at fronts j) where
-  pub choosing_better : other.size ≤ 64 → is_earlier other front ≡ true → Choosing fronts m j other (j + 1)
+module _ (fronts : List Front) (best : Option ℕ) (front : Front) (j : ℕ) (c : Choosing fronts best front j) (other : Front) (o : other ≡ front_at fronts j) where
+  pub choosing_better : other.size ≤ 64 → is_earlier other front ≡ true → Choosing fronts (Some j) other (j + 1)
   choosing_better s e =
       record {
         sized = s;
         none = λ z. absurd (earlier_some other front e z);
-        some = λ h. (omega arith, o, λ k l mk b. split k j (λ i. old k i mk b) (λ i. same k (omega arith) b));
+        some = λ h. (j, refl, omega arith, o, λ k l mk b. split k j (λ i. old k i mk b) (λ i. same k (omega arith) b));
       }
     where
       old : (k : ℕ) → k < j → ((front_at fronts k).mask ≡ 0 → ⊥) → Before (front_word (front_at fronts k)) (front_word other) → ⊥
       old k i mk b =
           same_or front.mask 0
           (λ z. mk ((c.none z).1 k i))
-          (λ z. (c.some z).2 k i mk (before_trans (front_word (front_at fronts k)) (front_word other) (front_word front) b (earlier_before other front e z)))
+          (λ z. (c.some z).4 k i mk (before_trans (front_word (front_at fronts k)) (front_word other) (front_word front) b (earlier_before other front e z)))
 
       same : (k : ℕ) → k ≡ j → Before (front_word (front_at fronts k)) (front_word other) → ⊥
       same k q b =
           before_irrefl (front_word other) (subst (λ (f : Front). Before (front_word f) (front_word other)) (ap (front_at fronts) q ∙ sym o) b)
 
-  pub choosing_kept : is_earlier other front ≡ false → Choosing fronts m best front (j + 1)
+  pub choosing_kept : is_earlier other front ≡ false → Choosing fronts best front (j + 1)
   choosing_kept e =
       record {
         sized = c.sized;
         none = λ z. ((c.none z).0, λ k l. split k j (λ i. (c.none z).1 k i) (λ i. this z k (omega arith)));
-        some = λ h. (
-          omega (arith, (c.some h).0),
-          (c.some h).1,
-          λ k l mk b. split k j (λ i. (c.some h).2 k i mk b) (λ i. that h k (omega arith) mk b),
-        );
+        some = λ h. let s = c.some h in (s.0, s.1, omega (arith, s.2), s.3, λ k l mk b. split k j (λ i. s.4 k i mk b) (λ i. that h k (omega arith) mk b));
       }
     where
       at : (k : ℕ) → k ≡ j → other ≡ front_at fronts k
@@ -84,21 +77,15 @@ module _ (fronts : List Front) (m best : ℕ) (front : Front) (j : ℕ) (c : Cho
           (later_not other front e (λ y. mk (ap (λ (f : Front). f.mask) (sym (at k q)) ∙ y))).1
           (subst (λ (f : Front). Before (front_word f) (front_word front)) (sym (at k q)) b)
 
-pub chosen : (fronts : List Front) (m best : ℕ) (front : Front) (j : ℕ) → j ≡ m → Choosing fronts m best front j → LeastIs fronts m best
+pub chosen : (fronts : List Front) (m : ℕ) (best : Option ℕ) (front : Front) (j : ℕ) → j ≡ m → Choosing fronts best front j → LeastIs fronts m best
 chosen fronts m best front j q c =
     same_or front.mask 0
-    (λ z.
-    record {
-      within = omega (arith, (c.none z).0);
-      none = λ _ k l. (c.none z).1 k (omega arith);
-      some = λ l. absurd (omega (arith, (c.none z).0));
-      least = λ l. absurd (omega (arith, (c.none z).0));
-    })
+    (λ z. let n = c.none z in rw n.0 (λ k l. n.1 k (omega arith)))
     (λ z.
     let s = c.some z in
-    record {
-      within = omega (arith, s.0);
-      none = λ e. absurd (omega (arith, s.0));
-      some = λ _ y. z (ap (λ (f : Front). f.mask) s.1 ∙ y);
-      least = λ _ k l mk b. s.2 k (omega arith) mk (subst (λ (f : Front). Before (front_word (front_at fronts k)) (front_word f)) (sym s.1) b);
-    })
+    rw s.1
+    (record {
+      within = omega (arith, s.2);
+      some = λ y. z (ap (λ (f : Front). f.mask) s.3 ∙ y);
+      least = λ k l mk b. s.4 k (omega arith) mk (subst (λ (f : Front). Before (front_word (front_at fronts k)) (front_word f)) (sym s.3) b);
+    }))

@@ -1,6 +1,7 @@
 -- The pass on content: after each word that is taken the groups are those of the words taken so far, and what is left of
 -- the leaves has every list of every other word that matches (`Collecting`). At its end the groups are all that a search
 -- starts from (`collecting_end`).
+use Rattle.std.specs.Prelude.{None}
 use Prim.Native.Nat.{ℕ, ◌+◌, ◌*◌, ◌≤◌, ◌<◌}
 use native.Mathlib.Omega.{arith}
 use mathlib.Core.Path.{◌≡◌, refl, sym, ap, ap₂, ◌∙◌, subst}
@@ -18,7 +19,7 @@ use Rattle.cursors.specs.Arrays.{Cursor, group_cursors, cursors}
 use Rattle.cursors.proofs.Each.{group_length}
 use Rattle.opening.specs.Matching.{mask_of}
 use Rattle.opening.specs.Opening.{LeavesAre, lists_of, group_of, lists_size, groups_size, GroupsOf, word_size, Arrays, Opened}
-use Rattle.opening.specs.Fronts.{FrontsAre, LeastIs, HoldAll, WordTaken, front_word, front_at, all_popped, head_lists, all_skipped}
+use Rattle.opening.specs.Fronts.{FrontsAre, Least, LeastIs, HoldAll, WordTaken, front_word, front_at, all_popped, head_lists, all_skipped}
 use Rattle.opening.specs.declared.Front.{Front}
 use Rattle.opening.specs.declared.Opening.{Opening}
 use Rattle.opening.specs.Walking.{AllNoneBefore}
@@ -162,18 +163,18 @@ going_start {nodes} {leaves = leaves} a f =
       collecting = collecting_start nodes leaves;
     }
 
-module _ (nodes : List Node) (columns : ℕ) (leaves : List (List Term)) (bytes ends order : List ℕ) (fronts : List Front) (a : Arrays) (n best : ℕ)
-    (g : OpenSoFar nodes columns leaves bytes ends order fronts a n) (l : LeastIs fronts (length order) best) where
+module _ (nodes : List Node) (columns : ℕ) (leaves : List (List Term)) (bytes ends order : List ℕ) (fronts : List Front) (a : Arrays) (n : ℕ)
+    (g : OpenSoFar nodes columns leaves bytes ends order fronts a n) where
   -- no front has a word: all is taken
-  pub going_end : LeavesAre columns bytes ends order leaves → length order ≤ best → Opened nodes leaves bytes a.docids a.bodies a.lasts a.masks a.follows n
-  going_end h e =
+  pub going_end : LeavesAre columns bytes ends order leaves → LeastIs fronts (length order) None → Opened nodes leaves bytes a.docids a.bodies a.lasts a.masks a.follows n
+  going_end h none =
       record {
         groups = g.groups;
-        groups_are = collecting_end h (none_left nodes columns bytes ends order fronts g.left g.fronts_are best l e) g.collecting;
+        groups_are = collecting_end h (none_left nodes columns bytes ends order fronts g.left g.fronts_are none) g.collecting;
         cursors_are = record { small = h.small; hold = g.hold };
       }
 
-  module _ (b : best < length order) where
+  module _ (best : ℕ) (l : Least fronts (length order) best) where
     -- the arrays have room for the word's lists; when they are written, there are more cursors than before
     pub going_next : (a' : Arrays) (r : Opening) → LeavesAre columns bytes ends order leaves → length bytes < word_size * (length a.docids + 1)
         → ((left : List (List Term)) (cs : List Cursor) → FrontsAre nodes columns bytes ends order fronts left → HoldAll bytes a n cs
@@ -185,12 +186,12 @@ module _ (nodes : List Node) (columns : ℕ) (leaves : List (List Term)) (bytes 
         let x : Group = record { mask = mask_of nodes w; lists = ls } in
         let t = take g.left (cursors g.groups) g.fronts_are g.hold
         (omega (arith, g.hold.count, cursors_count g.groups, g.collecting.total one, taken_total nodes columns w one g.left, lists_one ls, words_fit h)) in (
-          omega (arith, some_list nodes columns bytes ends order fronts g.left g.fronts_are best l b, g.hold.count, t.hold.count, length-append (cursors g.groups) (group_cursors (mask_of nodes w) 0 ls), group_length (mask_of nodes w) 0 ls),
+          omega (arith, some_list nodes columns bytes ends order fronts g.left g.fronts_are best l, g.hold.count, t.hold.count, length-append (cursors g.groups) (group_cursors (mask_of nodes w) 0 ls), group_length (mask_of nodes w) 0 ls),
           record {
             groups = g.groups ++ (x ∷ []);
             left = all_popped nodes w g.left;
             fronts_are = t.fronts_are;
             hold = subst (HoldAll bytes a' r.n) (sym (cursors_more g.groups x)) t.hold;
-            collecting = collecting_more columns w g.collecting (least_first nodes columns bytes ends order fronts g.left g.fronts_are best l b) (least_matched nodes columns bytes ends order fronts g.left g.fronts_are best l b) (λ q. omega (arith, some_list nodes columns bytes ends order fronts g.left g.fronts_are best l b, ap length q));
+            collecting = collecting_more columns w g.collecting (least_first nodes columns bytes ends order fronts g.left g.fronts_are best l) (least_matched nodes columns bytes ends order fronts g.left g.fronts_are best l) (λ q. omega (arith, some_list nodes columns bytes ends order fronts g.left g.fronts_are best l, ap length q));
           },
         )

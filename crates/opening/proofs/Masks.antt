@@ -1,18 +1,19 @@
 -- The test of a word says what matching means (`matches_law`), and the set of all words of a query that pass the test has
 -- exactly those that match (`mask_law`).
-use Prim.Native.Nat.{ℕ, zero, suc, ◌+◌, ◌≤◌, ◌<◌}
+use Prim.Native.Nat.{ℕ, zero, suc}
 use native.Mathlib.Omega.{arith}
-use native.Mathlib.Numerals.{add-one}
 use mathlib.Core.Path.{◌≡◌, refl, sym, ap, ap₂, ◌∙◌, subst}
 use mathlib.Core.Logic.{◌↔◌, inl, inr, ⊎_elim}
-use mathlib.Core.Bool.{Bool, true, false}
+use mathlib.Core.Bool.{Bool, true, false, ◌&&◌}
+use lib.Pointwise.{pointwise}
+use Rattle.std.specs.List.{starts_with}
 use mathlib.Core.List.{List, [], ◌∷◌, ◌++◌, append-nil}
-use lib.ListN.{length, get_or, drop, length-append, drop_of_length-le}
-use lib.Seq.{drop-cons, drop-nil}
+use lib.ListN.{length, length-append}
+use lib.Seq.{drop-nil}
 use lib.Dec.{ltb, eqb}
 use borrow.Author.Tests.{eq-eqb, ne_eqb, eqb-true, lt-ltb, le-ltb}
 use Rattle.common.specs.Pick.{both}
-use Rattle.common.proofs.Cases.{both_left, both_right, both_true, false_not_true, bool_case}
+use Rattle.common.proofs.Cases.{both_left, both_right, both_true, false_not_true, bool_case, same_or}
 use Rattle.common.proofs.Lists.{head_same, no_element, empty}
 use Rattle.common.proofs.Bits.{low_bit, high_bit}
 use Rattle.common.specs.Bits.{contains}
@@ -20,32 +21,40 @@ use Rattle.lexer.specs.Token.{QueryWord, Node}
 use Rattle.meaning.specs.Satisfies.{BeginsWith, Matches}
 use Rattle.opening.specs.Matching.{begins_with, matches_of, mask_of, NodeAt, MaskIs}
 
--- ---- one byte at a time
+-- ---- the library's tests
 
-begins_both : (p w : List ℕ) (i : ℕ) → i < length p → i < length w
-    → begins_with (drop i p) (drop i w) ≡ both (eqb (get_or p i 0) (get_or w i 0)) (begins_with (drop (i + 1) p) (drop (i + 1) w))
-begins_both p w i h k =
-    ap₂ begins_with (drop-cons p i 0 h) (drop-cons w i 0 k)
-    ∙ ap (λ (j : ℕ). both (eqb (get_or p i 0) (get_or w i 0)) (begins_with (drop j p) (drop j w))) (sym (add-one i))
-
-pub begins_next : (p w : List ℕ) (i : ℕ) → i < length p → i < length w → get_or p i 0 ≡ get_or w i 0
-    → begins_with (drop i p) (drop i w) ≡ begins_with (drop (i + 1) p) (drop (i + 1) w)
-begins_next p w i h k e = begins_both p w i h k ∙ rw (eq-eqb (get_or p i 0) (get_or w i 0) e) refl
-
-pub begins_differs : (p w : List ℕ) (i : ℕ) → i < length p → i < length w → (get_or p i 0 ≡ get_or w i 0 → ⊥) → begins_with (drop i p) (drop i w) ≡ false
-begins_differs p w i h k e = begins_both p w i h k ∙ rw (ne_eqb (get_or p i 0) (get_or w i 0) e) refl
-
-pub begins_short : (p w : List ℕ) → length w < length p → begins_with p w ≡ false
-begins_short [] w h = absurd (omega arith)
-begins_short (b ∷ p) [] h = refl
-begins_short (b ∷ p) (c ∷ w) h = rest (eqb b c) (begins_short p w (omega arith))
+pub starts : (p w : List ℕ) → starts_with eqb w p ≡ begins_with p w
+starts [] w = refl
+starts (b ∷ p) [] = refl
+starts (b ∷ p) (c ∷ w) = rest (eqb b c) (starts p w)
   where
-    rest : (t : Bool) → begins_with p w ≡ false → both t (begins_with p w) ≡ false
+    rest : (t : Bool) → starts_with eqb w p ≡ begins_with p w → (t && starts_with eqb w p) ≡ both t (begins_with p w)
     rest true e = e
     rest false e = refl
 
-pub begins_end : (p w : List ℕ) (i : ℕ) → length p ≤ i → begins_with (drop i p) (drop i w) ≡ true
-begins_end p w i h = ap (λ (x : List ℕ). begins_with x (drop i w)) (drop_of_length-le p h)
+pub equals : (p w : List ℕ) → pointwise eqb p w ≡ both (eqb (length p) (length w)) (begins_with p w)
+equals p w =
+    same_or (length p) (length w) (λ h. rw (eq-eqb (length p) (length w) h) (alike p w h)) (λ h. rw (ne_eqb (length p) (length w) h) (unlike p w h))
+  where
+    first : (t : Bool) (r s : Bool) → r ≡ s → (t && r) ≡ both t s
+    first true r s e = e
+    first false r s e = refl
+
+    none : (t r : Bool) → r ≡ false → (t && r) ≡ false
+    none true r e = e
+    none false r e = refl
+
+    alike : (p w : List ℕ) → length p ≡ length w → pointwise eqb p w ≡ begins_with p w
+    alike [] [] h = refl
+    alike [] (c ∷ w) h = absurd (omega arith)
+    alike (b ∷ p) [] h = absurd (omega arith)
+    alike (b ∷ p) (c ∷ w) h = first (eqb b c) (pointwise eqb p w) (begins_with p w) (alike p w (omega arith))
+
+    unlike : (p w : List ℕ) → (length p ≡ length w → ⊥) → pointwise eqb p w ≡ false
+    unlike [] [] h = absurd (h refl)
+    unlike [] (c ∷ w) h = refl
+    unlike (b ∷ p) [] h = refl
+    unlike (b ∷ p) (c ∷ w) h = none (eqb b c) (pointwise eqb p w) (unlike p w (λ e. h (ap suc e)))
 
 -- ---- one word
 
@@ -87,14 +96,11 @@ matches_law w word = (
 
 -- test by test
 module _ (bytes word : List ℕ) (star : ℕ) where
-  pub star_match : (star ≡ 0 → ⊥) → begins_with bytes word ≡ matches_of (record { bytes = bytes; star = ltb 0 star }) word
-  star_match h = rw (lt-ltb 0 star (omega arith)) refl
+  pub star_match : (star ≡ 0 → ⊥) → starts_with eqb word bytes ≡ matches_of (record { bytes = bytes; star = ltb 0 star }) word
+  star_match h = rw (lt-ltb 0 star (omega arith)) (starts bytes word)
 
-  pub plain_differs : star ≡ 0 → (length bytes ≡ length word → ⊥) → false ≡ matches_of (record { bytes = bytes; star = ltb 0 star }) word
-  plain_differs h d = rw (le-ltb 0 star (omega arith), ne_eqb (length bytes) (length word) d) refl
-
-  pub plain_match : star ≡ 0 → length bytes ≡ length word → begins_with bytes word ≡ matches_of (record { bytes = bytes; star = ltb 0 star }) word
-  plain_match h d = rw (le-ltb 0 star (omega arith), eq-eqb (length bytes) (length word) d) refl
+  pub plain_match : star ≡ 0 → pointwise eqb bytes word ≡ matches_of (record { bytes = bytes; star = ltb 0 star }) word
+  plain_match h = rw (le-ltb 0 star (omega arith)) (equals bytes word)
 
 -- ---- all words
 

@@ -5,7 +5,7 @@ use native.Mathlib.Omega.{arith}
 use mathlib.Core.Path.{◌≡◌, refl, sym, ap, ap₂, ◌∙◌}
 use mathlib.Core.Bool.{Bool}
 use mathlib.Core.List.{List, [], ◌∷◌, ◌++◌, append_assoc}
-use lib.ListN.{length, get_or, take, drop, replicate, length-append, drop_of_length-le, get_or-append}
+use lib.ListN.{length, get_or, take, drop, replicate, length-append, get_or-append}
 use lib.Seq.{drop_at, drop-drop}
 use lib.Dec.{ltb}
 use Rattle.common.specs.Pick.{pick}
@@ -14,14 +14,8 @@ use Rattle.common.proofs.Lists.{drop_inside}
 use Rattle.common.proofs.Parts.{part_here}
 use Rattle.offsets.specs.Cut.{start_of}
 use Rattle.lexer.specs.Token.{Node, mark_of, max_query, node_bytes, node_map}
-use Rattle.lexer.proofs.Nodes.{length_node_map, length_node_ends, bytes_split, end_at, start_at, get_d_node_map, mark_star}
+use Rattle.lexer.proofs.Nodes.{length_node_map, bytes_split, end_at, start_at, get_d_node_map, mark_star}
 use Rattle.opening.specs.Matching.{matches_of, mask_of, NodeAt, TextIs}
-
--- ---- ends and bytes
-
--- ---- marks
-
--- ---- the arrays
 
 pub record NodeHere (text ends marks : List ℕ) (i : ℕ) (n : Node) : Type 0 where
   pub rises : start_of ends i ≤ get_or ends i 0
@@ -57,13 +51,6 @@ node_at [] i h = absurd (omega arith)
 node_at (m ∷ ns) zero h = (m, (ns, refl))
 node_at (m ∷ ns) (suc i) h = node_at ns i (omega arith)
 
-pub ends_room : {text ends marks : List ℕ} {count : ℕ} {nodes : List Node} → TextIs text ends marks count nodes → count ≤ length ends
-ends_room {nodes = nodes} w = omega (arith, w.count_is, simp length-append at (ap length w.ends_are), length_node_ends 0 nodes)
-
-pub marks_room : {text ends marks : List ℕ} {count : ℕ} {nodes : List Node} → TextIs text ends marks count nodes → count ≤ length marks
-marks_room {nodes = nodes} w =
-    omega (arith, w.count_is, simp length-append at (ap length w.marks_are), length_node_map (λ (m : Node). mark_of m.word) nodes)
-
 -- ---- the set of words, from the last to the first
 
 pub mask_step : {text ends marks : List ℕ} {count : ℕ} {nodes : List Node} (word : List ℕ) (i mask r : ℕ) (matched : Bool) (bytes : List ℕ)
@@ -84,5 +71,3 @@ mask_step {marks = marks} {nodes = nodes} word i mask r matched bytes w z l m b 
     ∙ sym (ap (λ (ns : List Node). mask_of ns word) k.1.1)
 
 -- after the last word there is none
-pub mask_none : {text ends marks : List ℕ} {count : ℕ} {nodes : List Node} (word : List ℕ) → TextIs text ends marks count nodes → 0 ≡ mask_of (drop count nodes) word
-mask_none {count = count} {nodes = nodes} word w = ap (λ (ns : List Node). mask_of ns word) (sym (drop_of_length-le nodes {i = count} (omega (arith, w.count_is))))

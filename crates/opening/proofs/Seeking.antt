@@ -11,8 +11,8 @@ use Rattle.common.proofs.Parts.{part_length}
 use Rattle.common.proofs.Rooms.{paste_front}
 use Rattle.doclist.specs.Doclist.{Entry, WellFormed, encode_list}
 use Rattle.leaf.specs.Leaf.{Term, encode_terms}
-use Rattle.leaf.specs.Reading.{head_at}
-use Rattle.leaf.specs.declared.Head.TheVariants.{Found, Refused}
+use Rattle.leaf.specs.Reading.{head, head_at}
+use Rattle.std.specs.Prelude.{None}
 use Rattle.leaf.proofs.Words.{joins_le}
 use Rattle.leaf.proofs.Heads.{head_sound}
 use Rattle.leaf.specs.Rest.{RestIs}
@@ -51,10 +51,10 @@ module _ (nodes : List Node) (columns : ℕ) (leaf : List ℕ) (small : length l
       go (t ∷ us) r k = (t, us, s.size, r, k)
 
   module _ {at : ℕ} {word : List ℕ} {ts : List Term} (s : SeekingWord nodes columns leaf at word ts) (h : at < length leaf) where
-    pub seeking_refused {ℓ} : {X : Type ℓ} → head_at leaf at ≡ Refused → X
+    pub seeking_refused {ℓ} : {X : Type ℓ} → head_at leaf at ≡ None → X
     seeking_refused e = let k = some_term s h in head_not_refused columns leaf small k.3 e
 
-    module _ {p f n l x : ℕ} (e : head_at leaf at ≡ Found p f n l x) (w : List ℕ) (q : w ≡ paste word p (part leaf f (f + n)) (length (part leaf f (f + n))))
+    module _ {p f n l x : ℕ} (e : head_at leaf at ≡ head p f n l x) (w : List ℕ) (q : w ≡ paste word p (part leaf f (f + n)) (length (part leaf f (f + n))))
         (long : length word ≡ 64) where
       -- the word that was put together is the term's
       word_is : (t : Term) (us : List Term) (size : ℕ) → Meets columns leaf at (take size word) t us [] p f n l x → take (p + n) w ≡ t.word

@@ -3,7 +3,7 @@ use Prim.Native.Nat.{ℕ, zero, suc, ◌+◌, ◌≤◌, ◌<◌}
 use native.Mathlib.Omega.{arith}
 use mathlib.Core.Path.{◌≡◌, refl, sym, ap, ◌∙◌, subst}
 use mathlib.Core.List.{List, [], ◌∷◌, append-nil}
-use lib.ListN.{length, get_or, take, set, replicate, length-map}
+use lib.ListN.{length, get_or, take, set, length-map}
 use lib.Seq.{get_or-set_same, get_or-set_other}
 use Rattle.common.proofs.Cases.{split, same_or}
 use Rattle.directory.specs.Order.{in_order}
@@ -35,10 +35,6 @@ skipped_length nodes (ts ∷ leaves) = ap suc (skipped_length nodes leaves)
 pub record Starting (nodes : List Node) (columns : ℕ) (bytes ends order : List ℕ) (terms : List (List Term)) (fronts : List Front) (j : ℕ) : Type 0 where
   pub are : AreLeaves columns (in_order [] (cut bytes ends) order) terms
   pub passed : (k : ℕ) → k < j → FrontIs nodes columns (leaf_at bytes ends order k) (base_at ends order k) (front_at fronts k) (get_or (all_skipped nodes terms) k [])
-
-pub starting_start : {nodes : List Node} {columns : ℕ} {bytes ends order : List ℕ} {terms : List (List Term)} {fronts : List Front} → AreLeaves columns (in_order [] (cut bytes ends) order) terms
-    → Starting nodes columns bytes ends order terms fronts 0
-starting_start h = record { are = h; passed = λ k z. absurd (omega arith) }
 
 pub starting_more : {nodes : List Node} {columns : ℕ} {bytes ends order : List ℕ} {terms : List (List Term)} {fronts : List Front} (j : ℕ) (none other : Front) → none.next ≡ 1 → none.size ≡ 0
     → Starting nodes columns bytes ends order terms fronts j → j < length order → j < length fronts
@@ -89,11 +85,3 @@ module _ {size : ℕ} where
       subst (λ (i : ℕ). Placed size (front_at (set fronts j other) i)) (sym q)
       (subst (Placed size) (sym (get_or-set_same fronts j other no_front hj)) s))
       (λ q. subst (Placed size) (sym (get_or-set_other fronts j k other no_front q)) (h k z))
-
-  pub placed_all : (none : Front) → Placed size none → (k : ℕ) → Placed size (front_at (replicate 8 none) k)
-  placed_all none p k = go 8 k
-    where
-      go : (n k : ℕ) → Placed size (front_at (replicate n none) k)
-      go zero k = record { sized = omega arith; inside = λ some. absurd (some refl) }
-      go (suc n) zero = p
-      go (suc n) (suc k) = go n k

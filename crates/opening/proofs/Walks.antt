@@ -1,5 +1,6 @@
 -- The walk over the leaves' words: what holds where no word is taken, and where the least one is.
-use Prim.Native.Nat.{ℕ, zero, suc, ◌+◌, ◌≤◌, ◌<◌}
+use Rattle.std.specs.Prelude.{None}
+use Prim.Native.Nat.{ℕ, zero, suc, ◌+◌, ◌≤◌}
 use native.Mathlib.Omega.{arith}
 use mathlib.Core.Path.{◌≡◌, refl, sym, subst}
 use mathlib.Core.Bool.{Bool, true, false}
@@ -14,7 +15,7 @@ use Rattle.leaf.specs.Leaf.{Term}
 use Rattle.lexer.specs.Token.{Node}
 use Rattle.cursors.specs.Arrays.{Cursor}
 use Rattle.opening.specs.Opening.{Arrays, Openable, OpenFrame}
-use Rattle.opening.specs.Fronts.{front_word, front_at, Placed, LeastIs, head_for, head_lists, FrontsAre, HoldAll, WordTaken}
+use Rattle.opening.specs.Fronts.{front_word, front_at, Placed, Least, LeastIs, head_for, head_lists, FrontsAre, HoldAll, WordTaken}
 use Rattle.opening.specs.Walking.{AllPlaced, NoneLeft, LeastTaken, TakesWord}
 use Rattle.opening.specs.declared.Front.{Front}
 use Rattle.opening.specs.declared.Opening.{Opening}
@@ -51,20 +52,19 @@ hold_none bytes a =
       each = λ k z. absurd (omega arith);
     }
 
-module _ (nodes : List Node) (columns : ℕ) (bytes ends order : List ℕ) (fronts : List Front) (left : List (List Term)) (f : FrontsAre nodes columns bytes ends order fronts left) (best : ℕ)
-    (l : LeastIs fronts (length order) best) where
-  pub walk_over : (r : WordLists) → r.n ≡ 0 → length order ≤ best → NoneLeft left r
-  walk_over r e b = record { none = e; empty = none_left nodes columns bytes ends order fronts left f best l b }
+module _ (nodes : List Node) (columns : ℕ) (bytes ends order : List ℕ) (fronts : List Front) (left : List (List Term)) (f : FrontsAre nodes columns bytes ends order fronts left) where
+  pub walk_over : (r : WordLists) → r.n ≡ 0 → LeastIs fronts (length order) None → NoneLeft left r
+  walk_over r e none = record { none = e; empty = none_left nodes columns bytes ends order fronts left f none }
 
   -- the first front's word is taken from all that have it
-  pub walk_on : (before after : Arrays) (o : Opening) → length order ≤ length before.docids → best < length order
+  pub walk_on : (best : ℕ) → Least fronts (length order) best → (before after : Arrays) (o : Opening) → length order ≤ length before.docids
       → ((left : List (List Term)) (cs : List Cursor) → FrontsAre nodes columns bytes ends order fronts left → HoldAll bytes before 0 cs
       → 0 + length (head_lists (front_word (front_at fronts best)) left) ≤ length before.docids → WordTaken nodes columns (front_word (front_at fronts best)) bytes ends order after left cs o)
       → LeastTaken nodes columns bytes ends order after left (record { fronts = o.fronts; n = o.n; word = (front_at fronts best).word; size = (front_at fronts best).size })
-  walk_on before after o room b take =
+  walk_on best l before after o room take =
       record {
-        least = least_first nodes columns bytes ends order fronts left f best l b;
-        some = some_list nodes columns bytes ends order fronts left f best l b;
+        least = least_first nodes columns bytes ends order fronts left f best l;
+        some = some_list nodes columns bytes ends order fronts left f best l;
         taken = take left [] f (hold_none bytes before) (omega (arith, heads_few (front_word (front_at fronts best)) left, f.count));
       }
 
@@ -94,10 +94,10 @@ module _ (text stops marks : List ℕ) (count : ℕ) (bytes ends order : List �
       }
 
   -- no front has a word
-  pub walked_over : (best : ℕ) → LeastIs fronts (length order) best → length order ≤ best → TakesWord text stops marks count bytes ends order fronts a a r
-  walked_over best l b =
+  pub walked_over : LeastIs fronts (length order) None → TakesWord text stops marks count bytes ends order fronts a a r
+  walked_over none =
       record {
-        content = λ nodes columns left w f o p room. inl (walk_over nodes columns bytes ends order fronts left f best l r n b);
+        content = λ nodes columns left w f o p room. inl (walk_over nodes columns bytes ends order fronts left f r n none);
         placed = λ p. subst (AllPlaced (length bytes) order) (sym same-fronts-left) p;
         sized = omega arith;
         otherwise = λ _. (n, refl);

@@ -1,6 +1,6 @@
 -- The pass over the words of all leaves, as the functions of this crate do it. Each leaf has a front: the first of the words
 -- not yet taken that some word of the query matches. What is left of a leaf is a list of terms, the one at its front first.
-use Rattle.std.specs.Prelude.{ℕ, ◌+◌, ◌≤◌, ◌<◌, ◌≡◌, Bool, true, false, List, [], ◌∷◌, ◌++◌, length, get_or, take, set, eqb}
+use Rattle.std.specs.Prelude.{ℕ, ◌+◌, ◌≤◌, ◌<◌, ◌≡◌, Bool, true, false, List, [], ◌∷◌, ◌++◌, length, get_or, take, set, eqb, Option, Some, None}
 use Rattle.common.specs.Pick.{pick}
 use Rattle.common.specs.Bytes.{same}
 use Rattle.common.specs.Bounds.{max_word}
@@ -76,12 +76,16 @@ pub record Placed (size : ℕ) (f : Front) : Type 0 where
   pub sized : f.size ≤ max_word
   pub inside : (f.mask ≡ 0 → ⊥) → (f.body ≤ f.last) × (f.last < size)
 
--- of the first `m` fronts, number `r` has a word, and none has a word before it; `r` is `m` where none has a word
-pub record LeastIs (fronts : List Front) (m r : ℕ) : Type 0 where
-  pub within : r ≤ m
-  pub none : r ≡ m → (j : ℕ) → j < m → (front_at fronts j).mask ≡ 0
-  pub some : r < m → (front_at fronts r).mask ≡ 0 → ⊥
-  pub least : r < m → (j : ℕ) → j < m → ((front_at fronts j).mask ≡ 0 → ⊥) → Before (front_word (front_at fronts j)) (front_word (front_at fronts r)) → ⊥
+-- of the first `m` fronts, number `r` has a word, and none has a word before it
+pub record Least (fronts : List Front) (m r : ℕ) : Type 0 where
+  pub within : r < m
+  pub some : (front_at fronts r).mask ≡ 0 → ⊥
+  pub least : (j : ℕ) → j < m → ((front_at fronts j).mask ≡ 0 → ⊥) → Before (front_word (front_at fronts j)) (front_word (front_at fronts r)) → ⊥
+
+-- that number, or that none of them has a word
+abbrev pub LeastIs : List Front → ℕ → Option ℕ → Type 0
+LeastIs fronts m None = (j : ℕ) → j < m → (front_at fronts j).mask ≡ 0
+LeastIs fronts m (Some r) = Least fronts m r
 
 -- ---- taking a word from all fronts that have it
 

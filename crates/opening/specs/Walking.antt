@@ -1,6 +1,6 @@
 -- The walk over the leaves' words, one word after the other: the least word that is left is taken from all leaves that have it, with its lists,
 -- newest leaf first. The search's opening and a merge go through the leaves by it.
-use Rattle.std.specs.Prelude.{ℕ, ◌≤◌, ◌<◌, ◌≡◌, true, false, ◌⊎◌, ◌↔◌, List, [], ◌∷◌, length, get_or, take, set}
+use Rattle.std.specs.Prelude.{ℕ, ◌≤◌, ◌<◌, ◌≡◌, true, ◌⊎◌, List, [], ◌∷◌, length, get_or, take, set, Option, Some, None}
 use Rattle.common.specs.Bounds.{max_leaves, max_index_bytes}
 use Rattle.offsets.specs.Cut.{Cuts}
 use Rattle.leaf.specs.Leaf.{Term, Before, Terms}
@@ -101,10 +101,10 @@ pub record Alone (bytes ends order : List ℕ) (lead : Lead) (docids bodies last
   pub earlier : is_earlier lead.front lead.rival ≡ true
   pub able : Cuts bytes ends × (length order ≤ max_leaves) × (length bytes ≤ max_index_bytes) × (docids ≤ bodies) × (docids ≤ lasts) × (docids ≤ masks) × (docids ≤ follows)
 
-pub record TakesAlone (text stops marks : List ℕ) (count : ℕ) (bytes ends order : List ℕ) (lead : Lead) (before after : Arrays) (r : Lone) : Type 0 where
-  pub found : (r.found ≡ true) ↔ Alone bytes ends order lead (length before.docids) (length before.bodies) (length before.lasts) (length before.masks) (length before.follows)
+pub record AloneTaken (text stops marks : List ℕ) (count : ℕ) (bytes ends order : List ℕ) (lead : Lead) (before after : Arrays) (r : Lone) : Type 0 where
+  pub alone : Alone bytes ends order lead (length before.docids) (length before.bodies) (length before.lasts) (length before.masks) (length before.follows)
   -- where the fronts are those of leaves: the least word is taken, with its one list
-  pub content : r.found ≡ true → (nodes : List Node) (columns : ℕ) (fronts : List Front) (left : List (List Term))
+  pub content : (nodes : List Node) (columns : ℕ) (fronts : List Front) (left : List (List Term))
       → TextIs text stops marks count nodes
       → length fronts ≡ max_leaves
       → FrontsAre nodes columns bytes ends order (with_lead fronts lead) left
@@ -115,5 +115,10 @@ pub record TakesAlone (text stops marks : List ℕ) (count : ℕ) (bytes ends or
   pub lead_rival : r.lead.rival ≡ lead.rival
   pub placed : Placed (length bytes) lead.front → Placed (length bytes) r.lead.front
   pub sized : r.size ≤ 64
-  pub taken : r.found ≡ true → after ≡ with_cursor before 0 lead.front 0
-  pub otherwise : r.found ≡ false → (r.lead ≡ lead) × (after ≡ before)
+  pub taken : after ≡ with_cursor before 0 lead.front 0
+
+-- a word is taken exactly where the lead has it alone
+abbrev pub TakesAlone : (text stops marks : List ℕ) (count : ℕ) (bytes ends order : List ℕ) (lead : Lead) (before after : Arrays) → Option Lone → Type 0
+TakesAlone text stops marks count bytes ends order lead before after None =
+    (Alone bytes ends order lead (length before.docids) (length before.bodies) (length before.lasts) (length before.masks) (length before.follows) → ⊥) × (after ≡ before)
+TakesAlone text stops marks count bytes ends order lead before after (Some r) = AloneTaken text stops marks count bytes ends order lead before after r

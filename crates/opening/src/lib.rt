@@ -13,18 +13,15 @@ ghost use Rattle.leaf.specs.Leaf.{Term, AreLeaves};
 ghost use Rattle.leaf.specs.Rest.{RestIs};
 ghost use Rattle.lexer.specs.Token.{Node};
 ghost use Rattle.cursors.specs.Arrays.{Cursor};
-ghost use Rattle.opening.specs.Matching.{begins_with, matches_of, mask_of, NodeAt, TextIs};
+ghost use Rattle.opening.specs.Matching.{matches_of, mask_of, NodeAt, TextIs};
 ghost use Rattle.opening.specs.Fronts.{front_word, skip_to, FrontHas, FrontIs, is_earlier, has_word, front_at, Placed, LeastIs, head_lists, FrontsAre, Able, HasPlace, with_cursor, HoldAll, WordTaken, all_skipped};
 ghost use Rattle.opening.specs.Opening.{Arrays, arrays, OpenFrame, Opens};
 ghost use Rattle.opening.specs.Walking.{Begins, TakesWord, with_lead, LeadOf, Alone, TakesAlone};
 
-use leaf::Head;
 use varint::Varint;
 
-// The mark of a word with no `*`.
-const PLAIN: u8 = 0;
-
-// What marks a cursor: it is the first of its group, or it follows others.
+// What marks a cursor: it is the first of its group, or it follows others. Numbers and no enum: they go into arrays that are lent, and the definitions
+// read any number above 0 as `FOLLOWS`.
 const LEADS: u8 = 0;
 
 const FOLLOWS: u8 = 1;
@@ -35,7 +32,25 @@ const NO_CURSORS: usize = 0;
 // The first word of a leaf stands after the height.
 const FIRST_WORD: usize = 1;
 
-// The first word that matches of those of a leaf that are not taken yet.
+// The words of a query: `count` parts of these bytes, which end at `stops`; where a mark is not 0, a `*` stands after the word.
+#[derive(Clone, Copy)]
+pub struct Text<'a> {
+    pub bytes: &'a [u8],
+    pub stops: &'a [u16],
+    pub marks: &'a [u8],
+    pub count: usize,
+}
+
+// The leaves of an index: their bytes, where each ends, and their numbers in the order in which they are gone through.
+#[derive(Clone, Copy)]
+pub struct Leaves<'a> {
+    pub bytes: &'a [u8],
+    pub ends: &'a [u32],
+    pub order: &'a [u8],
+}
+
+// The first word that matches of those of a leaf that are not taken yet. No `Option<Front>` where there is none: it would be larger than a front, and
+// fronts are copied for each word.
 #[derive(Clone, Copy)]
 pub struct Front {
     // The word is the first `size` bytes.
@@ -58,7 +73,8 @@ struct Opening {
     n: usize,
 }
 
-// A word of the leaves, and how many of them have it: 0 where no word is left. Its lists are in the arrays.
+// A word of the leaves, and how many of them have it: 0 where no word is left. Its lists are in the arrays. Not an Option: the caller goes
+// on with `fronts` in either case.
 #[derive(Drop)]
 pub struct WordLists {
     // What is left after it.
@@ -70,7 +86,8 @@ pub struct WordLists {
 }
 
 // The leaf with the least next word, by its number among those that are gone through, and its front; and the rival, the front with the
-// least word of the others.
+// least word of the others. Not an Option where no front has a word: then neither of these has, and `take_alone` refuses the lead as it does
+// any other that has no word alone.
 #[derive(Clone, Copy)]
 pub struct Lead {
     at: usize,
@@ -78,10 +95,9 @@ pub struct Lead {
     rival: Front,
 }
 
-// A word that one leaf alone has, if `found`. Its list is in the arrays.
+// A word that one leaf alone has. Its list is in the arrays.
 #[derive(Drop)]
 pub struct Lone {
-    pub found: bool,
     // What is left after it.
     pub lead: Lead,
     // The word is the first `size` bytes.
@@ -89,34 +105,15 @@ pub struct Lone {
     pub size: usize,
 }
 
-// Whether a word begins with a prefix.
-fn begins(prefix: &[u8], word: &[u8]) -> bool
-    ensures { result ≡ begins_with prefix.now word.now }
-{
-    if word.len() < prefix.len() {
-        return false;
-    }
-    let mut i: usize = 0;
-    while i < prefix.len() {
-        if prefix[i] != word[i] {
-            return false;
-        }
-        i += 1;
-    }
-    true
-}
-
 // Whether a word of the query, with a `*` after it if `star` is not 0, matches an index word.
 fn is_match(bytes: &[u8], star: u8, word: &[u8]) -> bool
     ensures { result ≡ matches_of (record { bytes = bytes.entry.now; star = ltb 0 star }) word.now }
 {
     if star != 0 {
-        return begins(bytes, word);
+        word.starts_with(bytes)
+    } else {
+        bytes == word
     }
-    if bytes.len() != word.len() {
-        return false;
-    }
-    begins(bytes, word)
 }
 
 // Where the query's word number `i` begins.
@@ -124,10 +121,7 @@ fn start_of(ends: &[u16], i: usize) -> usize
     requires { i < length ends.now }
     ensures { result ≡ start_of ends.now i }
 {
-    if i == 0 {
-        return 0;
-    }
-    ends[i - 1] as usize
+    if i == 0 { 0 } else { usize::from(ends[i - 1]) }
 }
 
 // The bytes of the query's word number `i`.
@@ -136,14 +130,8 @@ fn word_at<'a>(text: &'a [u8], ends: &[u16], i: usize) -> &'a [u8]
     ensures { (marks : List ℕ) (count : ℕ) (nodes : List Node) (n : Node) → TextIs text.now ends.now marks count nodes → NodeAt nodes i n → result.now ≡ n.word.bytes }
 {
     let from = start_of(ends, i);
-    let to = ends[i] as usize;
-    if to < from {
-        return &text[0..0];
-    }
-    if text.len() < to {
-        return &text[0..0];
-    }
-    &text[from..to]
+    let to = usize::from(ends[i]);
+    text.get(from..to).unwrap_or(&[])
 }
 
 // A set of query words that are numbered from 1 on, with word number 0 before them.
@@ -151,31 +139,23 @@ fn with_word(mask: u16, matched: bool) -> u16
     requires { mask < 2 ^ 15 }
     ensures { result ≡ pick matched 1 0 + 2 * mask }
 {
-    if matched {
-        return 1 + 2 * mask;
-    }
-    2 * mask
+    u16::from(matched) + 2 * mask
 }
 
 // The set of query words that match an index word.
-fn mask_of(text: &[u8], ends: &[u16], marks: &[u8], count: usize, word: &[u8]) -> u16
-    ensures { (nodes : List Node) → TextIs text.now ends.now marks.now count nodes → result ≡ mask_of nodes word.now }
+fn mask_of(text: Text, word: &[u8]) -> u16
+    ensures { (nodes : List Node) → TextIs text.entry.bytes.now text.entry.stops.now text.entry.marks.now text.entry.count nodes → result ≡ mask_of nodes word.now }
 {
-    let mut mask: u16 = 0;
-    if lexer::MAX_WORDS < count {
-        return mask;
+    if lexer::MAX_WORDS < text.count
+        || text.stops.len() < text.count
+        || text.marks.len() < text.count
+    {
+        return 0;
     }
-    if ends.len() < count {
-        return mask;
-    }
-    if marks.len() < count {
-        return mask;
-    }
-    let mut i = count;
-    while 0 < i {
-        i -= 1;
-        let bytes = word_at(text, ends, i);
-        mask = with_word(mask, is_match(bytes, marks[i], word));
+    let mut mask = 0;
+    for i in (0..text.count).rev() {
+        let bytes = word_at(text.bytes, text.stops, i);
+        mask = with_word(mask, is_match(bytes, text.marks[i], word));
     }
     mask
 }
@@ -227,39 +207,24 @@ fn front_at(
 }
 
 // Moves a front on, to the leaf's next word that some word of the query matches.
-fn seek(
-    text: &[u8],
-    ends: &[u16],
-    marks: &[u8],
-    count: usize,
-    leaf: &[u8],
-    base: usize,
-    front: Front,
-) -> Front
+fn seek(text: Text, leaf: &[u8], base: usize, front: Front) -> Front
     requires { base + length leaf.now ≤ 65536 }
-    ensures { Placed (base + length leaf.now) result × ((nodes : List Node) (columns : ℕ) (ts : List Term) → TextIs text.now ends.now marks.now count nodes → RestIs columns leaf.now front.next (front_word front) ts [] → FrontIs nodes columns leaf.now base result (skip_to nodes ts)) }
+    ensures { Placed (base + length leaf.now) result × ((nodes : List Node) (columns : ℕ) (ts : List Term) → TextIs text.entry.bytes.now text.entry.stops.now text.entry.marks.now text.entry.count nodes → RestIs columns leaf.now front.next (front_word front) ts [] → FrontIs nodes columns leaf.now base result (skip_to nodes ts)) }
 {
     let mut word = front.word;
     let mut at = front.next;
     while at < leaf.len() {
-        let Head::Found {
-            prefix,
-            from,
-            size,
-            list,
-            next,
-        } = leaf::head_at(leaf, at)
-        else {
+        let Some(head) = leaf::head_at(leaf, at) else {
             return no_front();
         };
-        let to = from + size;
-        leaf::put_suffix(&mut word, prefix, &leaf[from..to]);
-        let n = prefix + size;
-        let mask = mask_of(text, ends, marks, count, &word[0..n]);
+        let to = head.from + head.size;
+        leaf::put_suffix(&mut word, head.prefix, &leaf[head.from..to]);
+        let n = head.prefix + head.size;
+        let mask = mask_of(text, &word[0..n]);
         if mask != 0 {
-            return front_at(leaf, base, word, n, mask, list, next);
+            return front_at(leaf, base, word, n, mask, head.list, head.next);
         }
-        at = next;
+        at = head.next;
     }
     no_front()
 }
@@ -269,17 +234,9 @@ fn is_earlier(front: Front, other: Front) -> bool
     requires { (front.size ≤ 64) × (other.size ≤ 64) }
     ensures { result ≡ is_earlier front other }
 {
-    if front.mask == 0 {
-        return false;
-    }
-    if other.mask == 0 {
-        return true;
-    }
-    let a = front.word;
-    let b = other.word;
-    let n = front.size;
-    let m = other.size;
-    leaf::is_before(&a[0..n], &b[0..m])
+    front.mask != 0
+        && (other.mask == 0
+            || leaf::is_before(&front.word[..front.size], &other.word[..other.size]))
 }
 
 // Whether a front has a word, and it is that of another.
@@ -287,33 +244,22 @@ fn has_word(front: Front, other: Front) -> bool
     requires { (front.size ≤ 64) × (other.size ≤ 64) }
     ensures { result ≡ has_word front other }
 {
-    if front.mask == 0 {
-        return false;
-    }
-    let a = front.word;
-    let b = other.word;
-    let n = front.size;
-    let m = other.size;
-    is_match(&a[0..n], PLAIN, &b[0..m])
+    front.mask != 0 && front.word[..front.size] == other.word[..other.size]
 }
 
-// The number of the front whose word is the least; `m`, the number of fronts, where none has a word.
-fn least(fronts: [Front; 8], m: usize) -> usize
+// The number of the front whose word is the least of the first `m`, if one of them has a word.
+fn least(fronts: [Front; 8], m: usize) -> Option<usize>
     requires { (m ≤ 8) × ((j : ℕ) → j < m → (front_at fronts j).size ≤ 64) }
     ensures { LeastIs fronts m result }
 {
-    let mut best = m;
+    let mut best = None;
     let mut front = no_front();
-    let mut j: usize = 0;
-    while j < m {
+    for j in 0..m {
         let other = fronts[j];
         if is_earlier(other, front) {
-            best = j;
+            best = Some(j);
             front = other;
-            j += 1;
-            continue;
         }
-        j += 1;
     }
     best
 }
@@ -339,40 +285,29 @@ fn push(
     follows[n] = follow;
 }
 
-// Where the leaf number `i` begins. After the last one it is where all end, and 0 for any number after that.
+// Where the leaf number `i` begins. After the last one it is where all end, and 0 for any number after that. A twin of `start_of`: the
+// leaves' ends are 32-bit numbers (document 01), the words' 16-bit ones, of which only these are a `usize` by `From`.
 fn leaf_start(ends: &[u32], i: usize) -> usize
     ensures { result ≡ start_of ends.now i }
 {
-    if i == 0 {
-        return 0;
+    if i == 0 || ends.len() < i {
+        0
+    } else {
+        ends[i - 1] as usize
     }
-    if ends.len() < i {
-        return 0;
-    }
-    ends[i - 1] as usize
 }
 
 // The fronts of all leaves, newest first, before a word is taken.
-fn fronts_of(
-    text: &[u8],
-    stops: &[u16],
-    marks: &[u8],
-    count: usize,
-    leaves: &[u8],
-    ends: &[u32],
-    order: &[u8],
-) -> [Front; 8]
-    requires { Cuts leaves.now ends.now × (length order.now ≤ 8) × (length leaves.now ≤ 65536) }
-    ensures { ((j : ℕ) → j < length order.now → Placed (length leaves.now) (front_at result j)) × ((nodes : List Node) (columns : ℕ) (terms : List (List Term)) → TextIs text.now stops.now marks.now count nodes → AreLeaves columns (in_order [] (cut leaves.now ends.now) order.now) terms → FrontsAre nodes columns leaves.now ends.now order.now result (all_skipped nodes terms)) }
+fn fronts_of(text: Text, leaves: Leaves) -> [Front; 8]
+    requires { Cuts leaves.bytes.now leaves.ends.now × (length leaves.order.now ≤ 8) × (length leaves.bytes.now ≤ 65536) }
+    ensures { ((j : ℕ) → j < length leaves.entry.order.now → Placed (length leaves.entry.bytes.now) (front_at result j)) × ((nodes : List Node) (columns : ℕ) (terms : List (List Term)) → TextIs text.entry.bytes.now text.entry.stops.now text.entry.marks.now text.entry.count nodes → AreLeaves columns (in_order [] (cut leaves.entry.bytes.now leaves.entry.ends.now) leaves.entry.order.now) terms → FrontsAre nodes columns leaves.entry.bytes.now leaves.entry.ends.now leaves.entry.order.now result (all_skipped nodes terms)) }
 {
     let none = no_front();
     let mut fronts = [none; 8];
-    let mut j: usize = 0;
-    while j < order.len() {
-        let i = order[j] as usize;
-        let leaf = offsets::part(leaves, ends, i);
-        fronts[j] = seek(text, stops, marks, count, leaf, leaf_start(ends, i), none);
-        j += 1;
+    for (j, number) in leaves.order.iter().enumerate() {
+        let i = usize::from(*number);
+        let leaf = offsets::part(leaves.bytes, leaves.ends, i);
+        fronts[j] = seek(text, leaf, leaf_start(leaves.ends, i), none);
     }
     fronts
 }
@@ -380,13 +315,8 @@ fn fronts_of(
 // Takes the word of `front` from all fronts that have it: writes their cursors from the place `from` on, and moves them
 // on. Stops where the arrays are full.
 fn take_word(
-    text: &[u8],
-    stops: &[u16],
-    marks: &[u8],
-    count: usize,
-    leaves: &[u8],
-    ends: &[u32],
-    order: &[u8],
+    text: Text,
+    leaves: Leaves,
     given: [Front; 8],
     front: Front,
     docids: &mut [u64],
@@ -396,84 +326,52 @@ fn take_word(
     follows: &mut [u8],
     from: usize,
 ) -> Opening
-    requires { Able leaves.now ends.now order.now given (arrays docids.old bodies.old lasts.old masks.old follows.old) from × (front.size ≤ 64) }
-    ensures able { Able leaves.now ends.now order.now result.fronts (arrays docids.old bodies.old lasts.old masks.old follows.old) result.n × (from ≤ result.n) }
-    ensures content { (nodes : List Node) (columns : ℕ) (left : List (List Term)) (cs : List Cursor) → TextIs text.now stops.now marks.now count nodes → FrontsAre nodes columns leaves.now ends.now order.now given left → HoldAll leaves.now (arrays docids.old bodies.old lasts.old masks.old follows.old) from cs → from + length (head_lists (front_word front) left) ≤ length docids.old → WordTaken nodes columns (front_word front) leaves.now ends.now order.now (arrays docids.new bodies.new lasts.new masks.new follows.new) left cs result }
-    ensures frame { (first : Arrays) → length first.docids ≡ length docids.old → OpenFrame leaves.now first (arrays docids.old bodies.old lasts.old masks.old follows.old) from → OpenFrame leaves.now first (arrays docids.new bodies.new lasts.new masks.new follows.new) result.n }
+    requires { Able leaves.bytes.now leaves.ends.now leaves.order.now given (arrays docids.old bodies.old lasts.old masks.old follows.old) from × (front.size ≤ 64) }
+    ensures able { Able leaves.entry.bytes.now leaves.entry.ends.now leaves.entry.order.now result.fronts (arrays docids.old bodies.old lasts.old masks.old follows.old) result.n × (from ≤ result.n) }
+    ensures content { (nodes : List Node) (columns : ℕ) (left : List (List Term)) (cs : List Cursor) → TextIs text.entry.bytes.now text.entry.stops.now text.entry.marks.now text.entry.count nodes → FrontsAre nodes columns leaves.entry.bytes.now leaves.entry.ends.now leaves.entry.order.now given left → HoldAll leaves.entry.bytes.now (arrays docids.old bodies.old lasts.old masks.old follows.old) from cs → from + length (head_lists (front_word front) left) ≤ length docids.old → WordTaken nodes columns (front_word front) leaves.entry.bytes.now leaves.entry.ends.now leaves.entry.order.now (arrays docids.new bodies.new lasts.new masks.new follows.new) left cs result }
+    ensures frame { (first : Arrays) → length first.docids ≡ length docids.old → OpenFrame leaves.entry.bytes.now first (arrays docids.old bodies.old lasts.old masks.old follows.old) from → OpenFrame leaves.entry.bytes.now first (arrays docids.new bodies.new lasts.new masks.new follows.new) result.n }
 {
     let mut fronts = given;
     let mut n = from;
     let mut follow = LEADS;
-    let mut j: usize = 0;
-    while j < order.len() {
+    for (j, number) in leaves.order.iter().enumerate() {
         let other = fronts[j];
         if !has_word(other, front) {
-            j += 1;
             continue;
         }
         if docids.len() <= n {
             return Opening { fronts, n };
         }
         push(other, follow, docids, bodies, lasts, masks, follows, n);
-        let i = order[j] as usize;
-        let leaf = offsets::part(leaves, ends, i);
-        fronts[j] = seek(text, stops, marks, count, leaf, leaf_start(ends, i), other);
+        let i = usize::from(*number);
+        let leaf = offsets::part(leaves.bytes, leaves.ends, i);
+        fronts[j] = seek(text, leaf, leaf_start(leaves.ends, i), other);
         follow = FOLLOWS;
         n += 1;
-        j += 1;
     }
     Opening { fronts, n }
 }
 
 // Whether the leaves can be opened: they are cut, have at most 65,536 bytes, and at most 8 are gone through; and whether the
 // arrays are as long as the first.
-fn is_able(
-    leaves: &[u8],
-    ends: &[u32],
-    order: &[u8],
-    a: usize,
-    b: usize,
-    c: usize,
-    d: usize,
-    e: usize,
-) -> bool
-    ensures { (result ≡ true) ↔ (Cuts leaves.now ends.now × (length order.now ≤ max_leaves) × (length leaves.now ≤ max_index_bytes) × (a ≤ b) × (a ≤ c) × (a ≤ d) × (a ≤ e)) }
+fn is_able(leaves: Leaves, a: usize, b: usize, c: usize, d: usize, e: usize) -> bool
+    ensures { (result ≡ true) ↔ (Cuts leaves.entry.bytes.now leaves.entry.ends.now × (length leaves.entry.order.now ≤ max_leaves) × (length leaves.entry.bytes.now ≤ max_index_bytes) × (a ≤ b) × (a ≤ c) × (a ≤ d) × (a ≤ e)) }
 {
-    if common::MAX_LEAVES < order.len() {
-        return false;
-    }
-    if common::MAX_INDEX_BYTES < leaves.len() {
-        return false;
-    }
-    if b < a {
-        return false;
-    }
-    if c < a {
-        return false;
-    }
-    if d < a {
-        return false;
-    }
-    if e < a {
-        return false;
-    }
-    offsets::is_cut(leaves, ends)
+    leaves.order.len() <= common::MAX_LEAVES
+        && leaves.bytes.len() <= common::MAX_INDEX_BYTES
+        && a <= b
+        && a <= c
+        && a <= d
+        && a <= e
+        && offsets::is_cut(leaves.bytes, leaves.ends)
 }
 
 // Whether a front's word fits, and its list, if it has one, lies in the leaves.
 fn is_placed(front: Front, size: usize) -> bool
     ensures { (result ≡ true) ↔ Placed size front }
 {
-    if common::MAX_WORD < front.size {
-        return false;
-    }
-    if front.mask == 0 {
-        return true;
-    }
-    if front.last < front.body {
-        return false;
-    }
-    (front.last as usize) < size
+    front.size <= common::MAX_WORD
+        && (front.mask == 0 || (front.body <= front.last && usize::from(front.last) < size))
 }
 
 // Whether all of the first `m` fronts do.
@@ -481,45 +379,25 @@ fn are_placed(fronts: [Front; 8], m: usize, size: usize) -> bool
     requires { m ≤ 8 }
     ensures { (result ≡ true) ↔ ((j : ℕ) → j < m → Placed size (front_at fronts j)) }
 {
-    let mut j: usize = 0;
-    while j < m {
-        if !is_placed(fronts[j], size) {
-            return false;
-        }
-        j += 1;
-    }
-    true
+    fronts[..m].iter().all(|front| is_placed(*front, size))
 }
 
 // What is left of the leaves before a word is taken: all words that some word of the query matches. Leaves that can't be gone
 // through have none.
-pub fn begin(
-    text: &[u8],
-    stops: &[u16],
-    marks: &[u8],
-    count: usize,
-    leaves: &[u8],
-    ends: &[u32],
-    order: &[u8],
-) -> [Front; 8]
-    ensures { Begins text.now stops.now marks.now count leaves.now ends.now order.now result }
+pub fn begin(text: Text, leaves: Leaves) -> [Front; 8]
+    ensures { Begins text.entry.bytes.now text.entry.stops.now text.entry.marks.now text.entry.count leaves.entry.bytes.now leaves.entry.ends.now leaves.entry.order.now result }
 {
-    if !is_able(leaves, ends, order, 0, 0, 0, 0, 0) {
+    if !is_able(leaves, 0, 0, 0, 0, 0) {
         let none = no_front();
         return [none; 8];
     }
-    fronts_of(text, stops, marks, count, leaves, ends, order)
+    fronts_of(text, leaves)
 }
 
 // Takes the least word that is left: the first entries of its lists go to the arrays, newest leaf first.
 pub fn next_word(
-    text: &[u8],
-    stops: &[u16],
-    marks: &[u8],
-    count: usize,
-    leaves: &[u8],
-    ends: &[u32],
-    order: &[u8],
+    text: Text,
+    leaves: Leaves,
     fronts: [Front; 8],
     docids: &mut [u64],
     bodies: &mut [u16],
@@ -527,7 +405,7 @@ pub fn next_word(
     masks: &mut [u16],
     follows: &mut [u8],
 ) -> WordLists
-    ensures { TakesWord text.now stops.now marks.now count leaves.now ends.now order.now fronts (arrays docids.old bodies.old lasts.old masks.old follows.old) (arrays docids.new bodies.new lasts.new masks.new follows.new) result }
+    ensures { TakesWord text.entry.bytes.now text.entry.stops.now text.entry.marks.now text.entry.count leaves.entry.bytes.now leaves.entry.ends.now leaves.entry.order.now fronts (arrays docids.old bodies.old lasts.old masks.old follows.old) (arrays docids.new bodies.new lasts.new masks.new follows.new) result }
 {
     let none = WordLists {
         fronts,
@@ -537,8 +415,6 @@ pub fn next_word(
     };
     if !is_able(
         leaves,
-        ends,
-        order,
         docids.len(),
         bodies.len(),
         lasts.len(),
@@ -547,17 +423,15 @@ pub fn next_word(
     ) {
         return none;
     }
-    if !are_placed(fronts, order.len(), leaves.len()) {
+    if !are_placed(fronts, leaves.order.len(), leaves.bytes.len()) {
         return none;
     }
-    let best = least(fronts, order.len());
-    if order.len() <= best {
+    let Some(best) = least(fronts, leaves.order.len()) else {
         return none;
-    }
+    };
     let front = fronts[best];
     let taken = take_word(
-        text, stops, marks, count, leaves, ends, order, fronts, front, docids, bodies, lasts,
-        masks, follows, 0,
+        text, leaves, fronts, front, docids, bodies, lasts, masks, follows, 0,
     );
     let left = taken.fronts;
     let word = front.word;
@@ -579,28 +453,19 @@ pub fn lead_of(fronts: [Front; 8], m: usize, size: usize) -> Lead
         front: none,
         rival: none,
     };
-    if common::MAX_LEAVES < m {
+    if common::MAX_LEAVES < m || !are_placed(fronts, m, size) {
         return nobody;
     }
-    if !are_placed(fronts, m, size) {
+    let Some(at) = least(fronts, m) else {
         return nobody;
-    }
-    let at = least(fronts, m);
-    if m <= at {
-        return nobody;
-    }
+    };
     let front = fronts[at];
     let mut others = fronts;
     others[at] = none;
-    let second = least(others, m);
-    if m <= second {
-        return Lead {
-            at,
-            front,
-            rival: none,
-        };
-    }
-    let rival = others[second];
+    let rival = match least(others, m) {
+        Some(second) => others[second],
+        None => none,
+    };
     Lead { at, front, rival }
 }
 
@@ -608,72 +473,40 @@ pub fn lead_of(fronts: [Front; 8], m: usize, size: usize) -> Lead
 pub fn with_lead(fronts: [Front; 8], lead: Lead) -> [Front; 8]
     ensures { result ≡ with_lead fronts lead }
 {
-    let at = lead.at;
-    if common::MAX_LEAVES <= at {
-        return fronts;
-    }
-    let front = lead.front;
     let mut all = fronts;
-    all[at] = front;
+    if lead.at < common::MAX_LEAVES {
+        all[lead.at] = lead.front;
+    }
     all
 }
 
 // Whether the lead has a word before the rival's, in leaves that can be opened, and the arrays, of so many places, have one for it.
-fn is_alone(
-    leaves: &[u8],
-    ends: &[u32],
-    order: &[u8],
-    lead: Lead,
-    a: usize,
-    b: usize,
-    c: usize,
-    d: usize,
-    e: usize,
-) -> bool
-    ensures { (result ≡ true) ↔ Alone leaves.now ends.now order.now lead a b c d e }
+fn is_alone(leaves: Leaves, lead: Lead, a: usize, b: usize, c: usize, d: usize, e: usize) -> bool
+    ensures { (result ≡ true) ↔ Alone leaves.entry.bytes.now leaves.entry.ends.now leaves.entry.order.now lead a b c d e }
 {
-    if a == 0 {
-        return false;
-    }
-    if order.len() <= lead.at {
-        return false;
-    }
-    let front = lead.front;
-    if !is_placed(front, leaves.len()) {
-        return false;
-    }
-    let rival = lead.rival;
-    if !is_placed(rival, leaves.len()) {
-        return false;
-    }
-    if !is_earlier(front, rival) {
-        return false;
-    }
-    is_able(leaves, ends, order, a, b, c, d, e)
+    0 < a
+        && lead.at < leaves.order.len()
+        && is_placed(lead.front, leaves.bytes.len())
+        && is_placed(lead.rival, leaves.bytes.len())
+        && is_earlier(lead.front, lead.rival)
+        && is_able(leaves, a, b, c, d, e)
 }
 
 // Takes the lead's word, if it comes before the rival's: no other leaf has it then.
 pub fn take_alone(
-    text: &[u8],
-    stops: &[u16],
-    marks: &[u8],
-    count: usize,
-    leaves: &[u8],
-    ends: &[u32],
-    order: &[u8],
+    text: Text,
+    leaves: Leaves,
     lead: Lead,
     docids: &mut [u64],
     bodies: &mut [u16],
     lasts: &mut [u16],
     masks: &mut [u16],
     follows: &mut [u8],
-) -> Lone
-    ensures { TakesAlone text.now stops.now marks.now count leaves.now ends.now order.now lead (arrays docids.old bodies.old lasts.old masks.old follows.old) (arrays docids.new bodies.new lasts.new masks.new follows.new) result }
+) -> Option<Lone>
+    ensures { TakesAlone text.entry.bytes.now text.entry.stops.now text.entry.marks.now text.entry.count leaves.entry.bytes.now leaves.entry.ends.now leaves.entry.order.now lead (arrays docids.old bodies.old lasts.old masks.old follows.old) (arrays docids.new bodies.new lasts.new masks.new follows.new) result }
 {
     if !is_alone(
         leaves,
-        ends,
-        order,
         lead,
         docids.len(),
         bodies.len(),
@@ -681,23 +514,17 @@ pub fn take_alone(
         masks.len(),
         follows.len(),
     ) {
-        return Lone {
-            found: false,
-            lead,
-            word: [0u8; 64],
-            size: 0,
-        };
+        return None;
     }
     let at = lead.at;
     let front = lead.front;
     let rival = lead.rival;
     push(front, LEADS, docids, bodies, lasts, masks, follows, 0);
-    let i = order[at] as usize;
-    let leaf = offsets::part(leaves, ends, i);
-    let next = seek(text, stops, marks, count, leaf, leaf_start(ends, i), front);
+    let i = leaves.order[at] as usize;
+    let leaf = offsets::part(leaves.bytes, leaves.ends, i);
+    let next = seek(text, leaf, leaf_start(leaves.ends, i), front);
     let word = front.word;
-    Lone {
-        found: true,
+    Some(Lone {
         lead: Lead {
             at,
             front: next,
@@ -705,33 +532,25 @@ pub fn take_alone(
         },
         word,
         size: front.size,
-    }
+    })
 }
 
 // Makes the cursors of a search, and answers how many: for each index word that some word of the query matches, one in
-// each leaf that has it, newest first. The leaves come in any order; `order` has their numbers, newest first. The words of
-// the query are `count` parts of `text`, which end at `stops`. A word takes at least 6 bytes of a leaf, so there are few
-// enough for the arrays if these have a place for every 6 bytes.
+// each leaf that has it, newest first. A word takes at least 6 bytes of a leaf, so there are few enough for the arrays if
+// these have a place for every 6 bytes.
 pub fn open(
-    text: &[u8],
-    stops: &[u16],
-    marks: &[u8],
-    count: usize,
-    leaves: &[u8],
-    ends: &[u32],
-    order: &[u8],
+    text: Text,
+    leaves: Leaves,
     docids: &mut [u64],
     bodies: &mut [u16],
     lasts: &mut [u16],
     masks: &mut [u16],
     follows: &mut [u8],
 ) -> usize
-    ensures { Opens text.now stops.now marks.now count leaves.now ends.now order.now (arrays docids.old bodies.old lasts.old masks.old follows.old) (arrays docids.new bodies.new lasts.new masks.new follows.new) result }
+    ensures { Opens text.entry.bytes.now text.entry.stops.now text.entry.marks.now text.entry.count leaves.entry.bytes.now leaves.entry.ends.now leaves.entry.order.now (arrays docids.old bodies.old lasts.old masks.old follows.old) (arrays docids.new bodies.new lasts.new masks.new follows.new) result }
 {
     if !is_able(
         leaves,
-        ends,
-        order,
         docids.len(),
         bodies.len(),
         lasts.len(),
@@ -740,17 +559,12 @@ pub fn open(
     ) {
         return NO_CURSORS;
     }
-    let mut fronts = fronts_of(text, stops, marks, count, leaves, ends, order);
+    let mut fronts = fronts_of(text, leaves);
     let mut n: usize = 0;
-    loop {
-        let best = least(fronts, order.len());
-        if order.len() <= best {
-            return n;
-        }
+    while let Some(best) = least(fronts, leaves.order.len()) {
         let front = fronts[best];
         let taken = take_word(
-            text, stops, marks, count, leaves, ends, order, fronts, front, docids, bodies, lasts,
-            masks, follows, n,
+            text, leaves, fronts, front, docids, bodies, lasts, masks, follows, n,
         );
         if taken.n <= n {
             return n;
@@ -758,4 +572,5 @@ pub fn open(
         fronts = taken.fronts;
         n = taken.n;
     }
+    n
 }

@@ -5,7 +5,6 @@ use mathlib.Core.Path.{◌≡◌, refl, sym, ap, ◌∙◌, subst}
 use mathlib.Core.List.{List, [], ◌∷◌, ◌++◌, append-nil}
 use lib.ListN.{length, get_or, set, length-set}
 use lib.Seq.{get_or-set_same, get_or-set_other}
-use Rattle.common.specs.Bounds.{max_leaves}
 use Rattle.common.proofs.Cases.{same_or}
 use Rattle.doclist.specs.Doclist.{Entry}
 use Rattle.meaning.specs.Index.{MaybeEntry, nothing, entry, entry_for}
@@ -13,7 +12,8 @@ use Rattle.cursors.specs.Groups.{first_for}
 use Rattle.cursors.specs.Arrays.{StandsOn, ListAt, group_cursors, no_cursor, CursorsAre}
 use Rattle.cursors.proofs.Each.{group_length}
 use Rattle.merged.proofs.Finding.{entry_here, entry_next, entry_below}
-use Rattle.postings.specs.Lists.{one_word, FirstOf}
+use Rattle.std.specs.Prelude.{None}
+use Rattle.postings.specs.Lists.{one_word, FirstOf, IsFirst}
 use Rattle.postings.specs.declared.First.{First}
 use Rattle.postings.proofs.Firsts.{first_none, first_some}
 
@@ -76,41 +76,40 @@ module _ {leaves docids bodies lasts : List ℕ} {n : ℕ} {left : List (List En
   none_at : (d j : ℕ) → j < n → (0 < get_or bodies j 0 → d < get_or docids j 0) → entry_for d (get_or left j []) ≡ nothing
   none_at d j h b = none_below leaves (get_or left j []) (get_or docids j 0) (get_or bodies j 0) (get_or lasts j 0) d (st.each j h) b
 
-  module _ (f : First) (g : FirstOf docids bodies n f) where
-    -- no entry is left
-    pub first_ended : f.at ≡ max_leaves → (d : ℕ) → first_for d left ≡ nothing
-    first_ended e d = first_none d left (λ j h. none_at d j (omega (arith, st.count)) (λ b. absurd (omega (arith, g.none e j (omega (arith, st.count))))))
+  -- no entry is left
+  pub first_ended : FirstOf docids bodies n None → (d : ℕ) → first_for d left ≡ nothing
+  first_ended g d = first_none d left (λ j h. none_at d j (omega (arith, st.count)) (λ b. absurd (omega (arith, g j (omega (arith, st.count))))))
 
-    module _ (some : f.at ≡ max_leaves → ⊥) where
-      pub on_first : OnEntry leaves (get_or left f.at []) (get_or docids f.at 0) (get_or bodies f.at 0) (get_or lasts f.at 0)
-      on_first = on_entry leaves (get_or left f.at []) (get_or docids f.at 0) (get_or bodies f.at 0) (get_or lasts f.at 0) (st.each f.at (g.inside some)) (g.here some).0
+  module _ (f : First) (g : IsFirst docids bodies n f) where
+    pub on_first : OnEntry leaves (get_or left f.at []) (get_or docids f.at 0) (get_or bodies f.at 0) (get_or lasts f.at 0)
+    on_first = on_entry leaves (get_or left f.at []) (get_or docids f.at 0) (get_or bodies f.at 0) (get_or lasts f.at 0) (st.each f.at g.inside) g.here.0
 
-      -- below its docid there is none
-      pub first_below : (d : ℕ) → d < get_or docids f.at 0 → first_for d left ≡ nothing
-      first_below d h = first_none d left (λ j m. none_at d j (omega (arith, st.count)) (λ b. omega (arith, (g.here some).1, g.least j (omega (arith, st.count)) b)))
+    -- below its docid there is none
+    pub first_below : (d : ℕ) → d < get_or docids f.at 0 → first_for d left ≡ nothing
+    first_below d h = first_none d left (λ j m. none_at d j (omega (arith, st.count)) (λ b. omega (arith, g.here.1, g.least j (omega (arith, st.count)) b)))
 
-      module _ (e : Entry) (es : List Entry) (q : get_or left f.at [] ≡ e ∷ es) (same : get_or docids f.at 0 ≡ e.docid) where
-        inside : f.at < length left
-        inside = omega (arith, st.count, g.inside some)
+    module _ (e : Entry) (es : List Entry) (q : get_or left f.at [] ≡ e ∷ es) (same : get_or docids f.at 0 ≡ e.docid) where
+      inside : f.at < length left
+      inside = omega (arith, st.count, g.inside)
 
-        -- at its docid it is its entry
-        pub first_here : first_for e.docid left ≡ entry e
-        first_here =
-            first_some e.docid f.at e left inside
-            (λ j h. none_at e.docid j (omega (arith, st.count, inside)) (λ b. omega (arith, (g.here some).1, g.newest j (omega (arith, st.count, inside)) h b)))
-            (ap (entry_for e.docid) q ∙ entry_here e es e.docid refl)
+      -- at its docid it is its entry
+      pub first_here : first_for e.docid left ≡ entry e
+      first_here =
+          first_some e.docid f.at e left inside
+          (λ j h. none_at e.docid j (omega (arith, st.count, inside)) (λ b. omega (arith, g.here.1, g.newest j h b)))
+          (ap (entry_for e.docid) q ∙ entry_here e es e.docid refl)
 
-        -- before the docids of the others it is that of its list
-        pub first_later : (d : ℕ) → d < f.rest → first_for d left ≡ entry_for d (e ∷ es)
-        first_later d h = go (entry_for d (e ∷ es)) refl
-          where
-            other : (j : ℕ) → j < n → (j ≡ f.at → ⊥) → entry_for d (get_or left j []) ≡ nothing
-            other j m o = none_at d j m (λ b. omega (arith, g.others j m o b))
+      -- before the docids of the others it is that of its list
+      pub first_later : (d : ℕ) → d < f.rest → first_for d left ≡ entry_for d (e ∷ es)
+      first_later d h = go (entry_for d (e ∷ es)) refl
+        where
+          other : (j : ℕ) → j < n → (j ≡ f.at → ⊥) → entry_for d (get_or left j []) ≡ nothing
+          other j m o = none_at d j m (λ b. omega (arith, g.others j m o b))
 
-            go : (x : MaybeEntry) → entry_for d (e ∷ es) ≡ x → first_for d left ≡ entry_for d (e ∷ es)
-            go nothing p =
-                first_none d left (λ j m. same_or j f.at (λ z. ap (λ (i : ℕ). entry_for d (get_or left i [])) z ∙ ap (entry_for d) q ∙ p) (λ o. other j (omega (arith, st.count)) o))
-                ∙ sym p
-            go (entry x) p =
-                first_some d f.at x left inside (λ j m. other j (omega (arith, st.count, inside)) (λ z. omega arith)) (ap (entry_for d) q ∙ p)
-                ∙ sym p
+          go : (x : MaybeEntry) → entry_for d (e ∷ es) ≡ x → first_for d left ≡ entry_for d (e ∷ es)
+          go nothing p =
+              first_none d left (λ j m. same_or j f.at (λ z. ap (λ (i : ℕ). entry_for d (get_or left i [])) z ∙ ap (entry_for d) q ∙ p) (λ o. other j (omega (arith, st.count)) o))
+              ∙ sym p
+          go (entry x) p =
+              first_some d f.at x left inside (λ j m. other j (omega (arith, st.count, inside)) (λ z. omega arith)) (ap (entry_for d) q ∙ p)
+              ∙ sym p

@@ -6,7 +6,6 @@ use mathlib.Core.Bool.{Bool}
 use mathlib.Core.Logic.{◌⊎◌, inl, inr, ⊎_elim}
 use mathlib.Core.List.{List, [], ◌∷◌, ◌++◌, append_assoc}
 use lib.ListN.{get_or}
-use Rattle.common.specs.Bounds.{max_leaves}
 use Rattle.common.specs.Bytes.{part}
 use Rattle.common.proofs.Cases.{split, same_or}
 use Rattle.varint.specs.Varint.{encode}
@@ -18,7 +17,7 @@ use Rattle.cursors.specs.Groups.{first_for}
 use Rattle.cursors.specs.Arrays.{StandsOn, ListAt}
 use Rattle.merged.specs.Merged.{kept_entry}
 use Rattle.merged.proofs.Finding.{entry_here, entry_next, entry_below}
-use Rattle.postings.specs.Lists.{FirstOf, EachKept, PassedOver, TakenUp, Turned, turn_bytes, EntriesStored}
+use Rattle.postings.specs.Lists.{IsFirst, EachKept, PassedOver, TakenUp, Turned, turn_bytes, EntriesStored}
 use Rattle.postings.specs.declared.First.{First}
 use Rattle.postings.specs.declared.Turn.{Turn}
 use Rattle.postings.specs.declared.Stored.{Stored}
@@ -54,17 +53,17 @@ pub record Done (write keep : Bool) (leaves : List ℕ) (lists : List (List Entr
 
 module _ {write keep : Bool} {leaves docids bodies lasts : List ℕ} {n : ℕ} {lists left : List (List Entry)} {room₀ room room₁ : List ℕ} {from : ℕ} {stored r : Stored} {turn : Turn}
     (st : Standing leaves docids bodies lasts n left) (same : (d : ℕ) → from ≤ d → first_for d left ≡ first_for d lists) (c : Content write keep lists room₀ room from stored)
-    (f : First) (g : FirstOf docids bodies n f) (some : f.at ≡ max_leaves → ⊥) (stores : EntriesStored write room room₁ leaves (get_or docids f.at 0) turn stored r)
+    (f : First) (g : IsFirst docids bodies n f) (stores : EntriesStored write room room₁ leaves (get_or docids f.at 0) turn stored r)
     (e : Entry) (es : List Entry) (q : get_or left f.at [] ≡ e ∷ es) {body last : ℕ} (on : StandsOn leaves e es (get_or docids f.at 0) body last) where
   abbrev docid : ℕ
   docid = get_or docids f.at 0
 
   -- none below, and at the docid the entry
   below_is : (k : ℕ) → from ≤ k → k < docid → kept_entry keep (first_for k lists) ≡ nothing
-  below_is k h l = ap (kept_entry keep) (sym (same k h) ∙ first_below st f g some k l)
+  below_is k h l = ap (kept_entry keep) (sym (same k h) ∙ first_below st f g k l)
 
   here_is : (k : ℕ) → from ≤ k → k ≡ docid → first_for k lists ≡ entry e
-  here_is k h z = sym (same k h) ∙ ap (λ (i : ℕ). first_for i left) (z ∙ on.same) ∙ first_here st f g some e es q on.same
+  here_is k h z = sym (same k h) ∙ ap (λ (i : ℕ). first_for i left) (z ∙ on.same) ∙ first_here st f g e es q on.same
 
   -- ---- passed over
 
@@ -131,7 +130,7 @@ module _ {write keep : Bool} {leaves docids bodies lasts : List ℕ} {n : ℕ} {
         let next : entry_for k (e ∷ run) ≡ entry_for k run = entry_next e run k (λ z. omega arith) in
         let none : entry_for k behind ≡ nothing = entry_below (suc (last_docid e.docid run)) 16 behind k parts.behind (omega (arith, final)) in
         let whole : first_for k lists ≡ entry_for k run =
-        sym (same k a) ∙ first_later st f g some e es q on.same k before ∙ entry_next e es k (λ z. omega arith) ∙ ap (entry_for k) t.after.whole ∙ entry_front k run behind none in
+        sym (same k a) ∙ first_later st f g e es q on.same k before ∙ entry_next e es k (λ z. omega arith) ∙ ap (entry_for k) t.after.whole ∙ entry_front k run behind none in
         next ∙ sym (kept_found keep f.rest k run t.after.kept) ∙ sym (ap (kept_entry keep) whole)
 
     entries_are : (k : ℕ) → from ≤ k → k < turn.last + 1 → entry_for k (e ∷ run) ≡ kept_entry keep (first_for k lists)

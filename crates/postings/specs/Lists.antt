@@ -1,7 +1,7 @@
 -- The merge of the posting lists of one word, newest first.
-use Rattle.std.specs.Prelude.{ℕ, ◌+◌, ◌-◌, ◌*◌, ◌≤◌, ◌<◌, min, ◌≡◌, Bool, true, false, not, ◌⊎◌, List, [], ◌∷◌, ◌++◌, length, get_or, ltb, eqb}
-use Rattle.common.specs.Pick.{pick, both, either}
-use Rattle.common.specs.Bounds.{max_leaves, max_index_bytes}
+use Rattle.std.specs.Prelude.{ℕ, ◌+◌, ◌-◌, ◌*◌, ◌≤◌, ◌<◌, min, ◌≡◌, Bool, true, false, not, ◌⊎◌, List, [], ◌∷◌, ◌++◌, length, get_or, ltb, eqb, Option, Some, None}
+use Rattle.common.specs.Pick.{pick, both}
+use Rattle.common.specs.Bounds.{max_index_bytes}
 use Rattle.common.specs.Bytes.{part, over}
 use Rattle.common.specs.Frame.{KeptFrom}
 use Rattle.varint.specs.Varint.{max_varint, encode}
@@ -28,21 +28,25 @@ one_word mask lists = record { mask = mask; lists = lists } ∷ []
 -- ---- the cursor to go on with
 
 -- over one more cursor: the newest on the least docid, and the least docid of the others
-abbrev pub over_cursor : First → ℕ → ℕ → ℕ → First
-over_cursor first i docid body =
-    pick (eqb body 0) first
-    (pick (either (eqb first.at max_leaves) (ltb docid first.docid))
-    (record { at = i; docid = docid; rest = first.docid })
-    (record { at = first.at; docid = first.docid; rest = min first.rest docid }))
+abbrev pub over_cursor : Option First → ℕ → ℕ → ℕ → Option First
+over_cursor None i docid body = pick (eqb body 0) None (Some (record { at = i; docid = docid; rest = last_key }))
+over_cursor (Some first) i docid body =
+    pick (eqb body 0) (Some first)
+    (pick (ltb docid first.docid)
+    (Some (record { at = i; docid = docid; rest = first.docid }))
+    (Some (record { at = first.at; docid = first.docid; rest = min first.rest docid })))
 
--- of the first n cursors; one without a body has no entry left
-pub record FirstOf (docids bodies : List ℕ) (n : ℕ) (r : First) : Type 0 where
-  pub none : r.at ≡ max_leaves → (k : ℕ) → k < n → get_or bodies k 0 ≡ 0
-  pub inside : (r.at ≡ max_leaves → ⊥) → r.at < n
-  pub here : (r.at ≡ max_leaves → ⊥) → (0 < get_or bodies r.at 0) × (get_or docids r.at 0 ≡ r.docid)
+-- the one of the first n cursors to go on with; one without a body has no entry left
+pub record IsFirst (docids bodies : List ℕ) (n : ℕ) (r : First) : Type 0 where
+  pub inside : r.at < n
+  pub here : (0 < get_or bodies r.at 0) × (get_or docids r.at 0 ≡ r.docid)
   pub least : (k : ℕ) → k < n → 0 < get_or bodies k 0 → r.docid ≤ get_or docids k 0
-  pub newest : (k : ℕ) → k < n → k < r.at → 0 < get_or bodies k 0 → r.docid < get_or docids k 0
+  pub newest : (k : ℕ) → k < r.at → 0 < get_or bodies k 0 → r.docid < get_or docids k 0
   pub others : (k : ℕ) → k < n → (k ≡ r.at → ⊥) → 0 < get_or bodies k 0 → r.rest ≤ get_or docids k 0
+
+abbrev pub FirstOf : List ℕ → List ℕ → ℕ → Option First → Type 0
+FirstOf docids bodies n None = (k : ℕ) → k < n → get_or bodies k 0 ≡ 0
+FirstOf docids bodies n (Some first) = IsFirst docids bodies n first
 
 -- ---- what its list gives
 

@@ -5,8 +5,7 @@
 //     difference   body: for each column [1, column] position + 2, ..   0   difference   body   ..
 #![tactic(auto)]
 
-ghost use Rattle.std.specs.Prelude.{ℕ, ◌+◌, ◌≤◌, ◌<◌, ◌≡◌, List, ◌++◌, length, ltb, eqb};
-ghost use Rattle.common.specs.Pick.{either};
+ghost use Rattle.std.specs.Prelude.{ℕ, ◌+◌, ◌≤◌, ◌<◌, ◌≡◌, List, ◌++◌, length};
 ghost use Rattle.common.specs.Bounds.{max_leaves, max_index_bytes};
 ghost use Rattle.common.specs.Bytes.{part, span, over};
 ghost use Rattle.varint.specs.Varint.{encode};
@@ -21,17 +20,25 @@ use common::{MAX_INDEX_BYTES, MAX_LEAVES};
 use doclist::keys::{MAX_KEY, ZERO_KEY};
 use varint::Varint;
 
-// The body of a cursor that has no entry left; it stands on the last docid then.
+// The body of a cursor that has no entry left; it stands on the last docid then. A number and no Option: the cursors lend their bodies in an
+// array of numbers.
 const NO_BODY: u16 = 0;
 
-// Where a cursor stands.
+// Where a cursor stands. A twin of the type in `cursors`, whose `entry_after` asks nothing of the list and promises nothing of where the next body lies;
+// the one here asks that the list lies in the leaves, and `entry_at` promises that the next body lies in the list.
 #[derive(Clone, Copy)]
 struct Place {
     docid: u64,
     body: u16,
 }
 
-// The cursor to go on with: the newest on the least docid, or `MAX_LEAVES` for none; the least docid of the others.
+// Where a cursor stands that has no entry left.
+const NOWHERE: Place = Place {
+    docid: MAX_KEY,
+    body: NO_BODY,
+};
+
+// The cursor to go on with: the newest on the least docid; and the least docid of the others, the last docid where there is no other.
 #[derive(Clone, Copy)]
 struct First {
     at: usize,
@@ -48,7 +55,7 @@ struct Stretch {
 }
 
 // What a cursor gives: where the bytes begin, from the body of the first entry on, and how many there are, 0 for no entry; the docid up to
-// which all is done; where the cursor stands then.
+// which all is done; where the cursor stands then. No Option: `last` and `next` are told for no entry too.
 #[derive(Clone, Copy)]
 struct Turn {
     start: usize,
@@ -64,19 +71,18 @@ struct Stored {
     last: u64,
 }
 
-// The place of the closing 0 of the body that begins at `from`, in a list whose last byte is at `to`.
+// The place of the closing 0 of the body that begins at `from`, in a list whose last byte is at `to`. `first_zero` of `cursors` answers
+// None where there is no 0; the answer here is `to` then, so that it is always a place of the list.
 fn close_at(leaves: &[u8], from: usize, to: usize) -> usize
     requires { (from ≤ to) × (to < length leaves.now) }
     ensures { result ≡ from + span is_open (part leaves.now from to) }
 {
-    let mut i = from;
-    while i < to {
+    for i in from..to {
         if leaves[i] == 0 {
             return i;
         }
-        i += 1;
     }
-    i
+    to
 }
 
 // The entry whose number stands at `at`, after the entry for `docid`, in a list whose last byte is at `last`.
@@ -85,24 +91,20 @@ fn entry_at(leaves: &[u8], docid: u64, at: usize, last: u16) -> Place
     ensures onward { (docid < last_key → docid < result.docid) × (docid ≤ result.docid) × (result.body ≤ last) × (result.docid < last_key → at < result.body) }
 {
     let to = last as usize;
-    let none = Place {
-        docid: MAX_KEY,
-        body: NO_BODY,
-    };
     if to < at {
-        return none;
+        return NOWHERE;
     }
     let Varint::Value { value, next } = varint::read(leaves, at) else {
-        return none;
+        return NOWHERE;
     };
     if value == 0 {
-        return none;
+        return NOWHERE;
     }
     if MAX_KEY - docid < value {
-        return none;
+        return NOWHERE;
     }
     if to < next {
-        return none;
+        return NOWHERE;
     }
     Place {
         docid: docid + value,
@@ -124,10 +126,7 @@ fn entry_after(leaves: &[u8], docid: u64, body: u16, last: u16) -> Place
 fn is_dropped(keep: bool, first: u8) -> bool
     ensures { result ≡ is_dropped keep first }
 {
-    if keep {
-        return false;
-    }
-    first == 0
+    !keep && first == 0
 }
 
 // The entry for `docid`, and those after it that are before `rest` and kept, up to the first that is not.
@@ -184,15 +183,11 @@ fn turn_of(
 {
     let start = body as usize;
     let to = last as usize;
-    let none = Place {
-        docid: MAX_KEY,
-        body: NO_BODY,
-    };
     if to < start {
-        return passed_over(docid, none);
+        return passed_over(docid, NOWHERE);
     }
     if leaves.len() <= to {
-        return passed_over(docid, none);
+        return passed_over(docid, NOWHERE);
     }
     if docid < from {
         return passed_over(from - 1, entry_after(leaves, docid, body, last));
@@ -208,16 +203,6 @@ fn turn_of(
         last: all.last,
         next,
     }
-}
-
-// The difference of a docid to the one before, modulo 2^64.
-fn difference(before: u64, docid: u64) -> u64
-    ensures { result ≡ difference before docid }
-{
-    if before <= docid {
-        return docid - before;
-    }
-    docid + (MAX_KEY - before) + 1
 }
 
 // Puts an entry's number, and its body with what follows it, at the front of the room.
@@ -241,7 +226,7 @@ fn add_entries(
     requires { (at ≤ max_index_bytes) × (length bytes.now ≤ max_index_bytes) }
     ensures { BytesPut write out.old out.new at (encode (difference before docid) ++ bytes.now) result }
 {
-    let number = difference(before, docid);
+    let number = docid.wrapping_sub(before);
     let end = at + varint::size(number) + bytes.len();
     if !write {
         return end;
@@ -290,54 +275,42 @@ fn store(
     }
 }
 
-// Whether a docid is before that of all cursors so far.
-fn is_before(docid: u64, first: First) -> bool
-    ensures { result ≡ either (eqb first.at max_leaves) (ltb docid first.docid) }
-{
-    if first.at == MAX_LEAVES {
-        return true;
-    }
-    docid < first.docid
-}
-
 // Over one more cursor.
-fn over_cursor(first: First, i: usize, docid: u64, body: u16) -> First
+fn over_cursor(first: Option<First>, i: usize, docid: u64, body: u16) -> Option<First>
     ensures { result ≡ over_cursor first i docid body }
 {
     if body == NO_BODY {
         return first;
     }
-    if is_before(docid, first) {
-        return First {
+    let Some(first) = first else {
+        return Some(First {
+            at: i,
+            docid,
+            rest: MAX_KEY,
+        });
+    };
+    if docid < first.docid {
+        return Some(First {
             at: i,
             docid,
             rest: first.docid,
-        };
+        });
     }
-    if docid < first.rest {
-        return First {
-            at: first.at,
-            docid: first.docid,
-            rest: docid,
-        };
-    }
-    first
+    Some(First {
+        at: first.at,
+        docid: first.docid,
+        rest: first.rest.min(docid),
+    })
 }
 
 // The cursor to go on with of the first `n`.
-fn first_of(docids: &[u64], bodies: &[u16], n: usize) -> First
+fn first_of(docids: &[u64], bodies: &[u16], n: usize) -> Option<First>
     requires { (n ≤ max_leaves) × (n ≤ length docids.now) × (n ≤ length bodies.now) }
     ensures { FirstOf docids.now bodies.now n result }
 {
-    let mut first = First {
-        at: MAX_LEAVES,
-        docid: MAX_KEY,
-        rest: MAX_KEY,
-    };
-    let mut i: usize = 0;
-    while i < n {
+    let mut first = None;
+    for i in 0..n {
         first = over_cursor(first, i, docids[i], bodies[i]);
-        i += 1;
     }
     first
 }
@@ -369,11 +342,10 @@ pub fn put_list(
         last: ZERO_KEY,
     };
     loop {
-        let first = first_of(&at, &places, n);
-        let i = first.at;
-        if i == MAX_LEAVES {
+        let Some(first) = first_of(&at, &places, n) else {
             return stored.size;
-        }
+        };
+        let i = first.at;
         let docid = at[i];
         let turn = turn_of(keep, leaves, from, docid, places[i], lasts[i], first.rest);
         stored = store(out, write, stored, docid, leaves, turn);

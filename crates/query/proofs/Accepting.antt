@@ -2,7 +2,7 @@
 use Prim.Native.Nat.{ℕ, ◌≤◌}
 use native.Mathlib.Omega.{arith}
 use mathlib.Core.Path.{◌≡◌, refl, sym, ap, subst, ◌∙◌}
-use mathlib.Core.Bool.{true, false}
+use mathlib.Core.Bool.{false}
 use mathlib.Core.List.{List}
 use lib.ListN.{length}
 use lib.Dec.{leb}
@@ -14,11 +14,12 @@ use Rattle.lexer.specs.Lexing.{Within, QueryTokens, Lexing, tokens, lex_of, is_w
 use Rattle.lexer.specs.Lexing as lexing
 use Rattle.lexer.proofs.TokenLaws.{tokens_law, tokens_unique}
 use Rattle.lexer.proofs.TokenNodes.{within_law}
-use Rattle.query.specs.declared.Reading.{Reading}
-use Rattle.query.specs.Tree.{OR, Tree}
+use Rattle.std.specs.Prelude.{Option, None, Some}
+use Rattle.query.specs.declared.Query.{Query}
+use Rattle.query.specs.Tree.{OR, Tree, compile}
 use Rattle.query.specs.Grammar.{level, max_depth, Derives, Reads}
 use Rattle.query.specs.Parsing.{Parsed, found, refused, tree_of}
-use Rattle.query.specs.Reading.{refused_reading, reading, reading_of, tokens_read, read_of, Compiles}
+use Rattle.query.specs.Reading.{reading_of, tokens_read, read_of, Compiles}
 use Rattle.query.proofs.Sound.{tree_sound}
 use Rattle.query.proofs.Complete.{tree_complete, tree_unique}
 
@@ -44,9 +45,9 @@ module _ (names : List (List ℕ)) (s : List ℕ) where
         let r : Reads names s t = record { tokens = ts; split = q; derived = i } in
         record {
           accepted = (λ _. (t, r), λ _. refl);
-          content = λ u p. ap reading (reads_unique t u r p);
+          content = λ u p. ap (λ v. Some (compile v)) (reads_unique t u r p);
           unique = reads_unique;
-          otherwise = λ h. true_not_false true refl h;
+          otherwise = λ n. absurd (n t r);
         }
     compiles_as refused e =
         record {
@@ -66,7 +67,7 @@ module _ (names : List (List ℕ)) (s : List ℕ) where
     tokens_compile = compiles_as (tree_of ts) refl
 
   -- to all others
-  pub others_refused : ((ts : List Token) → QueryTokens names s ts → ⊥) → Compiles names s refused_reading
+  pub others_refused : ((ts : List Token) → QueryTokens names s ts → ⊥) → Compiles names s None
   others_refused no-tokens =
       record {
         accepted = (λ h. true_not_false false h refl, λ p. absurd (no-tokens p.1.tokens p.1.split));
@@ -79,13 +80,13 @@ module _ (names : List (List ℕ)) (s : List ℕ) where
 
   pub read_compiles : Compiles names s (read_of names s)
   read_compiles =
-      pick_case (Compiles names s) (leb (length s) max_query) (tokens_read (lex_of names s)) refused_reading
+      pick_case (Compiles names s) (leb (length s) max_query) (tokens_read (lex_of names s)) None
       (λ b. go (leb-true (length s) max_query b) (lex_of names s) refl)
       (λ b. others_refused (λ ts q. true_not_false (leb (length s) max_query) (le-leb (length s) max_query q.size) b))
     where
       go : length s ≤ max_query → (x : Lexing) → lex_of names s ≡ x → Compiles names s (tokens_read x)
       go size (tokens ts) e =
-          pick_case (Compiles names s) (is_within ts) (reading_of (tree_of ts)) refused_reading
+          pick_case (Compiles names s) (is_within ts) (reading_of (tree_of ts)) None
           (λ w. tokens_compile ts (record { reads = (tokens_law names s ts).1 e; size = size; words = (within_law ts).0 w }))
           (λ w. others_refused (λ us q.
           let h = tokens_unique names s us ts q.reads ((tokens_law names s ts).1 e) in
@@ -96,5 +97,5 @@ module _ (names : List (List ℕ)) (s : List ℕ) where
           let z : ◌≡◌ {A = ℕ} 0 1 = cc in omega arith)
 
   -- both sides of the promise
-  pub read_answers : (r : Reading) → r ≡ read_of names s → (r ≡ read_of names s) × Compiles names s r
+  pub read_answers : (r : Option Query) → r ≡ read_of names s → (r ≡ read_of names s) × Compiles names s r
   read_answers r e = (e, subst (Compiles names s) (sym e) read_compiles)

@@ -74,8 +74,5 @@ module _ {names : List (List ℕ)} {s : List ℕ} {t : Tree} (r : Reads names s 
   pub reads_words : length (tree_nodes t) ≤ max_words
   reads_words = query_words r.split r.derived
 
-  pub reads_codes : length (postfix t) ≤ max_codes
-  reads_codes = query_codes r.split r.derived
-
   pub reads_filled : FilledTree t
   reads_filled = tree_filled r.derived (tokens_worded r.split.reads)

@@ -7,22 +7,21 @@ use mathlib.Core.List.{List, [], ◌∷◌}
 use mathlib.Core.Logic.{◌⊎◌, inl, inr, ⊎_elim}
 use lib.ListN.{length, drop}
 use lib.Dec.{eqb}
-use borrow.Author.Tests.{eqb-true, eq-eqb, ne_eqb}
+use borrow.Author.Tests.{eqb-true}
 use Rattle.common.specs.Pick.{pick, both, either}
-use Rattle.lexer.specs.Token.{Token, lparen, kind_of, operand_kind, front_kind, after_front}
+use Rattle.lexer.specs.Token.{kind_number, Token, operand_kind, front_kind, after_front}
 use Rattle.lexer.specs.Lexing.{lex_of}
 use Rattle.lexer.specs.Looking.{look_at}
 use Rattle.lexer.specs.declared.Ahead.{Ahead}
 use Rattle.lexer.proofs.Places.{rest_of, look_front, look_moves, look_rest}
-use Rattle.query.specs.declared.Right.{Right}
-use Rattle.query.specs.declared.Right.TheVariants.{At, Nothing}
+use Rattle.std.specs.Prelude.{Option, None, Some}
 use Rattle.query.specs.Tree.{Op, OR, AND, NOT}
 use Rattle.query.specs.Parsing.{op_kind, opens, unwritten, goes_on, right_side}
 use Rattle.query.specs.Levels.{right_at, TokensAt, BrokenAt}
 
 -- ---- after a parenthesis or an operator
 
-module _ (names : List (List ℕ)) (s : List ℕ) (at : ℕ) (k : (look_at s at).kind < operand_kind) where
+module _ (names : List (List ℕ)) (s : List ℕ) (at : ℕ) (k : kind_number (look_at s at).kind < operand_kind) where
   pub tokens_after : (ts : List Token) → TokensAt names s at ts → TokensAt names s (look_at s at).next (after_front ts)
   tokens_after ts h = look_rest names s at k ∙ ap rest_of h
 
@@ -41,13 +40,13 @@ op_below OR = omega arith
 op_below AND = omega arith
 op_below NOT = omega arith
 
-chosen : (b u : Bool) (next at n : ℕ) → pick b (At next) (pick u (At at) Nothing) ≡ At n
+chosen : (b u : Bool) (next at n : ℕ) → pick b (Some next) (pick u (Some at) None) ≡ Some n
     → ((b ≡ true) × (n ≡ next)) ⊎ ((b ≡ false) × (u ≡ true) × (n ≡ at))
 chosen true u next at n e = inl (refl, cc)
 chosen false true next at n e = inr (refl, refl, cc)
 chosen false false next at n e = let z : ◌≡◌ {A = ℕ} 0 1 = cc in absurd (omega arith)
 
-none_chosen : (b u : Bool) (next at : ℕ) → pick b (At next) (pick u (At at) Nothing) ≡ Nothing → either b u ≡ false
+none_chosen : (b u : Bool) (next at : ℕ) → pick b (Some next) (pick u (Some at) None) ≡ None → either b u ≡ false
 none_chosen true u next at e = let z : ◌≡◌ {A = ℕ} 0 1 = cc in absurd (omega arith)
 none_chosen false true next at e = let z : ◌≡◌ {A = ℕ} 0 1 = cc in absurd (omega arith)
 none_chosen false false next at e = refl
@@ -56,16 +55,16 @@ module _ (names : List (List ℕ)) (s : List ℕ) (at : ℕ) (o : Op) where
   abbrev here : Ahead
   here = look_at s at
 
-  right_by : (r : Right) → right_at (op_kind o) here at ≡ r → pick (eqb here.kind (op_kind o)) (At here.next) (pick (unwritten o here.kind) (At at) Nothing) ≡ r
+  right_by : (r : Option ℕ) → right_at (op_kind o) here at ≡ r → pick (eqb (kind_number here.kind) (op_kind o)) (Some here.next) (pick (unwritten o (kind_number here.kind)) (Some at) None) ≡ r
   right_by r e = rw by_op at e
 
   -- the operator is written
-  written : eqb here.kind (op_kind o) ≡ true → here.kind < operand_kind
-  written h = omega (arith, eqb-true here.kind (op_kind o) h, op_below o)
+  written : eqb (kind_number here.kind) (op_kind o) ≡ true → (kind_number here.kind) < operand_kind
+  written h = omega (arith, eqb-true (kind_number here.kind) (op_kind o) h, op_below o)
 
-  module _ (n : ℕ) (e : right_at (op_kind o) here at ≡ At n) where
-    cases : ((eqb here.kind (op_kind o) ≡ true) × (n ≡ here.next)) ⊎ ((eqb here.kind (op_kind o) ≡ false) × (unwritten o here.kind ≡ true) × (n ≡ at))
-    cases = chosen (eqb here.kind (op_kind o)) (unwritten o here.kind) here.next at n (right_by (At n) e)
+  module _ (n : ℕ) (e : right_at (op_kind o) here at ≡ Some n) where
+    cases : ((eqb (kind_number here.kind) (op_kind o) ≡ true) × (n ≡ here.next)) ⊎ ((eqb (kind_number here.kind) (op_kind o) ≡ false) × (unwritten o (kind_number here.kind) ≡ true) × (n ≡ at))
+    cases = chosen (eqb (kind_number here.kind) (op_kind o)) (unwritten o (kind_number here.kind)) here.next at n (right_by (Some n) e)
 
     -- it lies in the bytes
     pub right_place : at ≤ length s → (at ≤ n) × (n ≤ length s)
@@ -90,8 +89,8 @@ module _ (names : List (List ℕ)) (s : List ℕ) (at : ℕ) (o : Op) where
         (λ w. ap (λ m. lex_of names (drop m s)) w.2 ∙ h)
         cases
 
-  pub right_stops : (ts : List Token) → TokensAt names s at ts → right_at (op_kind o) here at ≡ Nothing → goes_on o ts ≡ false
-  right_stops ts h e = rw (← look_front names s at ts h) (none_chosen (eqb here.kind (op_kind o)) (unwritten o here.kind) here.next at (right_by Nothing e))
+  pub right_stops : (ts : List Token) → TokensAt names s at ts → right_at (op_kind o) here at ≡ None → goes_on o ts ≡ false
+  right_stops ts h e = rw (← look_front names s at ts h) (none_chosen (eqb (kind_number here.kind) (op_kind o)) (unwritten o (kind_number here.kind)) here.next at (right_by None e))
 
 -- the right side is no longer
 pub right_shorter : (o : Op) (ts : List Token) → length (right_side o ts) ≤ length ts
@@ -101,23 +100,3 @@ right_shorter o ts = go (eqb (front_kind ts) (op_kind o)) ts
     go true [] = omega arith
     go true (u ∷ us) = omega arith
     go false us = omega arith
-
--- ---- how the code finds it
-
-module _ (operator : ℕ) (a : Ahead) (at : ℕ) where
-  pub right_written : a.kind ≡ operator → At a.next ≡ right_at operator a at
-  right_written e = rw (eq-eqb a.kind operator e)
-
-  module _ (n : a.kind ≡ operator → ⊥) where
-    pub right_unwritten : (operator ≡ op_kind AND → ⊥) → Nothing ≡ right_at operator a at
-    right_unwritten m = rw (ne_eqb a.kind operator n, ne_eqb operator (op_kind AND) m)
-
-    module _ (m : operator ≡ op_kind AND) where
-      pub right_parens : a.kind ≡ kind_of lparen → At at ≡ right_at operator a at
-      right_parens e = rw (ne_eqb a.kind operator n, eq-eqb operator (op_kind AND) m, eq-eqb a.kind (kind_of lparen) e)
-
-      pub right_operand : (a.kind ≡ kind_of lparen → ⊥) → a.kind ≡ operand_kind → At at ≡ right_at operator a at
-      right_operand l e = rw (ne_eqb a.kind operator n, eq-eqb operator (op_kind AND) m, ne_eqb a.kind (kind_of lparen) l, eq-eqb a.kind operand_kind e)
-
-      pub right_nothing : (a.kind ≡ kind_of lparen → ⊥) → (a.kind ≡ operand_kind → ⊥) → Nothing ≡ right_at operator a at
-      right_nothing l e = rw (ne_eqb a.kind operator n, eq-eqb operator (op_kind AND) m, ne_eqb a.kind (kind_of lparen) l, ne_eqb a.kind operand_kind e)

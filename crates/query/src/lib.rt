@@ -9,13 +9,15 @@
 
 mod postfix;
 
-ghost use Rattle.std.specs.Prelude.{◌≡◌, ℕ, ◌≤◌, List, length};
+ghost use Rattle.std.specs.Prelude.{◌≡◌, ◌≤◌, length};
 ghost use Rattle.offsets.specs.Cut.{cut};
-ghost use Rattle.lexer.specs.Token.{max_query};
+ghost use Rattle.lexer.specs.Token.{kind_number, max_query};
 ghost use Rattle.query.specs.Tree.{OR, AND, NOT};
 ghost use Rattle.query.specs.Grammar.{near, level};
-ghost use Rattle.query.specs.Levels.{right_at, query_of, Phrased, Chained, Mirrors};
-ghost use Rattle.query.specs.Reading.{refused_reading, read_of, Compiles};
+ghost use Rattle.query.specs.Levels.{right_at, Phrased, Chained, Mirrors};
+ghost use Rattle.query.specs.Reading.{read_of, Compiles};
+
+use lexer::Kind;
 
 // A query of 16 words has at most 16 NEAR chains and 15 operators.
 pub const MAX_CODES: usize = 31;
@@ -23,7 +25,8 @@ pub const MAX_CODES: usize = 31;
 // Parentheses may stand eight deep.
 pub const MAX_DEPTH: usize = 8;
 
-// The codes of a compiled query: a NEAR chain, and the operators.
+// The codes of a compiled query: a NEAR chain, and the operators. They are numbers, not an enum: `evaluate::holds`
+// (`otherwise`, `frame`), `evaluate::needs` (`reader`) and `engine::run` answer for every byte.
 pub const CODE_CHAIN: u8 = 0;
 
 pub const CODE_AND: u8 = 1;
@@ -47,51 +50,28 @@ pub struct Query {
     pub ops: Ops,
 }
 
-// The answer to `read`.
-#[derive(Drop)]
-pub struct Reading {
-    // Whether the bytes are a query.
-    pub ok: bool,
-    pub query: Query,
-}
-
-// What was read from a place of the text on. Words and codes are put into lent arrays, as they are read.
-#[derive(Drop)]
+// What was read from a place of the text on; its words and codes are in the query.
+#[derive(Clone, Copy)]
 struct Parse {
-    // Whether it is in the language.
-    ok: bool,
     // Where the rest begins, and what comes next there.
     at: usize,
     ahead: lexer::Ahead,
-    // How many words and codes there are then.
-    count: usize,
-    len: usize,
 }
 
-// Where the right side of an operator begins.
-#[derive(Drop)]
-enum Right {
-    At(usize),
-    Nothing,
-}
-
-// The right side of an operator: after it, or, where an AND is not written, where an operand begins.
-fn right_side(ahead: lexer::Ahead, at: usize, operator: u8) -> Right
-    ensures { result ≡ right_at operator ahead at }
+// Where the right side of an operator begins: after it, or, where an AND is not written, where an operand begins.
+fn right_side(ahead: lexer::Ahead, at: usize, operator: Kind) -> Option<usize>
+    ensures { result ≡ right_at (kind_number operator) ahead at }
 {
     if ahead.kind == operator {
-        return Right::At(ahead.next);
+        return Some(ahead.next);
     }
-    if operator != lexer::AND {
-        return Right::Nothing;
+    if operator != Kind::And {
+        return None;
     }
-    if ahead.kind == lexer::LPAREN {
-        return Right::At(at);
+    if ahead.kind == Kind::LeftParen || ahead.kind == Kind::Operand {
+        return Some(at);
     }
-    if ahead.kind == lexer::OPERAND {
-        return Right::At(at);
-    }
-    Right::Nothing
+    None
 }
 
 // Reads a word or phrase, whose first word is tied as told.
@@ -102,89 +82,37 @@ fn phrase(
     at: usize,
     tie: u8,
     distance: u16,
-    text: &mut [u8; lexer::MAX_QUERY],
-    ends: &mut [u16; lexer::MAX_WORDS],
-    marks: &mut [u8; lexer::MAX_WORDS],
-    columns: &mut [u16; lexer::MAX_WORDS],
-    ties: &mut [u8; lexer::MAX_WORDS],
-    distances: &mut [u16; lexer::MAX_WORDS],
-    count: usize,
-    len: usize,
-) -> Parse
-    ensures { (codes : List ℕ) → Phrased (cut names.now name_ends.now) s.now at tie distance (query_of text.old ends.old marks.old columns.old ties.old distances.old count codes len) result (query_of text.new ends.new marks.new columns.new ties.new distances.new result.count codes result.len) }
+    query: &mut Query,
+) -> Option<Parse>
+    ensures { Phrased (cut names.now name_ends.now) s.now at tie distance query.old result query.new }
 {
-    let taken = lexer::take_operand(
-        names, name_ends, text, ends, marks, columns, ties, distances, count, s, at, tie, distance,
-    );
-    let ahead = lexer::look(s, taken.next);
-    Parse {
-        ok: taken.ok,
-        at: taken.next,
-        ahead: ahead,
-        count: taken.count,
-        len,
-    }
+    let next = lexer::take_operand(names, name_ends, &mut query.words, s, at, tie, distance)?;
+    let ahead = lexer::look(s, next);
+    Some(Parse { at: next, ahead })
 }
 
 // Reads a NEAR chain: a word or phrase, and further ones after NEAR.
-fn chain(
-    names: &[u8],
-    name_ends: &[u32],
-    s: &[u8],
-    at: usize,
-    text: &mut [u8; lexer::MAX_QUERY],
-    ends: &mut [u16; lexer::MAX_WORDS],
-    marks: &mut [u8; lexer::MAX_WORDS],
-    columns: &mut [u16; lexer::MAX_WORDS],
-    ties: &mut [u8; lexer::MAX_WORDS],
-    distances: &mut [u16; lexer::MAX_WORDS],
-    codes: &mut [u8; MAX_CODES],
-    count: usize,
-    len: usize,
-) -> Parse
-    ensures { Chained (cut names.now name_ends.now) s.now at (query_of text.old ends.old marks.old columns.old ties.old distances.old count codes.old len) result (query_of text.new ends.new marks.new columns.new ties.new distances.new result.count codes.new result.len) }
+fn chain(names: &[u8], name_ends: &[u32], s: &[u8], at: usize, query: &mut Query) -> Option<Parse>
+    ensures { Chained (cut names.now name_ends.now) s.now at query.old result query.new }
 {
-    let mut left = phrase(
-        names,
-        name_ends,
-        s,
-        at,
-        lexer::BEGINS,
-        0,
-        text,
-        ends,
-        marks,
-        columns,
-        ties,
-        distances,
-        count,
-        len,
-    );
-    while left.ok {
-        let ahead = left.ahead;
-        if ahead.kind != lexer::NEAR {
-            left.len = postfix::push(codes, left.len, CODE_CHAIN);
-            return left;
-        }
+    let mut left = phrase(names, name_ends, s, at, lexer::BEGINS, 0, query)?;
+    while left.ahead.kind == Kind::Near {
+        let near = left.ahead;
         left = phrase(
             names,
             name_ends,
             s,
-            ahead.next,
-            ahead.tie,
-            ahead.distance,
-            text,
-            ends,
-            marks,
-            columns,
-            ties,
-            distances,
-            left.count,
-            left.len,
-        );
+            near.next,
+            near.tie,
+            near.distance,
+            query,
+        )?;
     }
-    left
+    query.ops.push(CODE_CHAIN);
+    Some(left)
 }
+
+// OR, AND and NOT are read in one form; each has its function, as document 01 has these call each other in a cycle.
 
 // Reads at the level of OR, the loosest, with parentheses at most `depth` deep.
 #[cycle(and_level_not_level_operand_level_or_level)]
@@ -194,36 +122,17 @@ fn or_level(
     s: &[u8],
     depth: usize,
     at: usize,
-    text: &mut [u8; lexer::MAX_QUERY],
-    ends: &mut [u16; lexer::MAX_WORDS],
-    marks: &mut [u8; lexer::MAX_WORDS],
-    columns: &mut [u16; lexer::MAX_WORDS],
-    ties: &mut [u8; lexer::MAX_WORDS],
-    distances: &mut [u16; lexer::MAX_WORDS],
-    codes: &mut [u8; MAX_CODES],
-    count: usize,
-    len: usize,
-) -> Parse
+    query: &mut Query,
+) -> Option<Parse>
     requires { (length s.now ≤ max_query) × (at ≤ length s.now) }
-    ensures { Mirrors (cut names.now name_ends.now) s.now depth (level OR) at (query_of text.old ends.old marks.old columns.old ties.old distances.old count codes.old len) result (query_of text.new ends.new marks.new columns.new ties.new distances.new result.count codes.new result.len) }
+    ensures { Mirrors (cut names.now name_ends.now) s.now depth (level OR) at query.old result query.new }
 {
-    let mut left = and_level(
-        names, name_ends, s, depth, at, text, ends, marks, columns, ties, distances, codes, count,
-        len,
-    );
-    while left.ok {
-        let ahead = left.ahead;
-        let step = right_side(ahead, left.at, lexer::OR);
-        let Right::At(n) = step else {
-            return left;
-        };
-        left = and_level(
-            names, name_ends, s, depth, n, text, ends, marks, columns, ties, distances, codes,
-            left.count, left.len,
-        );
-        left.len = postfix::push(codes, left.len, CODE_OR);
+    let mut left = and_level(names, name_ends, s, depth, at, query)?;
+    while let Some(n) = right_side(left.ahead, left.at, Kind::Or) {
+        left = and_level(names, name_ends, s, depth, n, query)?;
+        query.ops.push(CODE_OR);
     }
-    left
+    Some(left)
 }
 
 // Reads at the level of AND, written or not.
@@ -234,36 +143,17 @@ fn and_level(
     s: &[u8],
     depth: usize,
     at: usize,
-    text: &mut [u8; lexer::MAX_QUERY],
-    ends: &mut [u16; lexer::MAX_WORDS],
-    marks: &mut [u8; lexer::MAX_WORDS],
-    columns: &mut [u16; lexer::MAX_WORDS],
-    ties: &mut [u8; lexer::MAX_WORDS],
-    distances: &mut [u16; lexer::MAX_WORDS],
-    codes: &mut [u8; MAX_CODES],
-    count: usize,
-    len: usize,
-) -> Parse
+    query: &mut Query,
+) -> Option<Parse>
     requires { (length s.now ≤ max_query) × (at ≤ length s.now) }
-    ensures { Mirrors (cut names.now name_ends.now) s.now depth (level AND) at (query_of text.old ends.old marks.old columns.old ties.old distances.old count codes.old len) result (query_of text.new ends.new marks.new columns.new ties.new distances.new result.count codes.new result.len) }
+    ensures { Mirrors (cut names.now name_ends.now) s.now depth (level AND) at query.old result query.new }
 {
-    let mut left = not_level(
-        names, name_ends, s, depth, at, text, ends, marks, columns, ties, distances, codes, count,
-        len,
-    );
-    while left.ok {
-        let ahead = left.ahead;
-        let step = right_side(ahead, left.at, lexer::AND);
-        let Right::At(n) = step else {
-            return left;
-        };
-        left = not_level(
-            names, name_ends, s, depth, n, text, ends, marks, columns, ties, distances, codes,
-            left.count, left.len,
-        );
-        left.len = postfix::push(codes, left.len, CODE_AND);
+    let mut left = not_level(names, name_ends, s, depth, at, query)?;
+    while let Some(n) = right_side(left.ahead, left.at, Kind::And) {
+        left = not_level(names, name_ends, s, depth, n, query)?;
+        query.ops.push(CODE_AND);
     }
-    left
+    Some(left)
 }
 
 // Reads at the level of NOT.
@@ -274,36 +164,17 @@ fn not_level(
     s: &[u8],
     depth: usize,
     at: usize,
-    text: &mut [u8; lexer::MAX_QUERY],
-    ends: &mut [u16; lexer::MAX_WORDS],
-    marks: &mut [u8; lexer::MAX_WORDS],
-    columns: &mut [u16; lexer::MAX_WORDS],
-    ties: &mut [u8; lexer::MAX_WORDS],
-    distances: &mut [u16; lexer::MAX_WORDS],
-    codes: &mut [u8; MAX_CODES],
-    count: usize,
-    len: usize,
-) -> Parse
+    query: &mut Query,
+) -> Option<Parse>
     requires { (length s.now ≤ max_query) × (at ≤ length s.now) }
-    ensures { Mirrors (cut names.now name_ends.now) s.now depth (level NOT) at (query_of text.old ends.old marks.old columns.old ties.old distances.old count codes.old len) result (query_of text.new ends.new marks.new columns.new ties.new distances.new result.count codes.new result.len) }
+    ensures { Mirrors (cut names.now name_ends.now) s.now depth (level NOT) at query.old result query.new }
 {
-    let mut left = operand_level(
-        names, name_ends, s, depth, at, text, ends, marks, columns, ties, distances, codes, count,
-        len,
-    );
-    while left.ok {
-        let ahead = left.ahead;
-        let step = right_side(ahead, left.at, lexer::NOT);
-        let Right::At(n) = step else {
-            return left;
-        };
-        left = operand_level(
-            names, name_ends, s, depth, n, text, ends, marks, columns, ties, distances, codes,
-            left.count, left.len,
-        );
-        left.len = postfix::push(codes, left.len, CODE_NOT);
+    let mut left = operand_level(names, name_ends, s, depth, at, query)?;
+    while let Some(n) = right_side(left.ahead, left.at, Kind::Not) {
+        left = operand_level(names, name_ends, s, depth, n, query)?;
+        query.ops.push(CODE_NOT);
     }
-    left
+    Some(left)
 }
 
 // Reads a NEAR chain, or a query in parentheses.
@@ -314,149 +185,52 @@ fn operand_level(
     s: &[u8],
     depth: usize,
     at: usize,
-    text: &mut [u8; lexer::MAX_QUERY],
-    ends: &mut [u16; lexer::MAX_WORDS],
-    marks: &mut [u8; lexer::MAX_WORDS],
-    columns: &mut [u16; lexer::MAX_WORDS],
-    ties: &mut [u8; lexer::MAX_WORDS],
-    distances: &mut [u16; lexer::MAX_WORDS],
-    codes: &mut [u8; MAX_CODES],
-    count: usize,
-    len: usize,
-) -> Parse
+    query: &mut Query,
+) -> Option<Parse>
     requires { (length s.now ≤ max_query) × (at ≤ length s.now) }
-    ensures { Mirrors (cut names.now name_ends.now) s.now depth near at (query_of text.old ends.old marks.old columns.old ties.old distances.old count codes.old len) result (query_of text.new ends.new marks.new columns.new ties.new distances.new result.count codes.new result.len) }
+    ensures { Mirrors (cut names.now name_ends.now) s.now depth near at query.old result query.new }
 {
     let ahead = lexer::look(s, at);
-    if ahead.kind != lexer::LPAREN {
-        return chain(
-            names, name_ends, s, at, text, ends, marks, columns, ties, distances, codes, count, len,
-        );
+    if ahead.kind != Kind::LeftParen {
+        return chain(names, name_ends, s, at, query);
     }
     if depth == 0 {
-        return Parse {
-            ok: false,
-            at,
-            ahead: ahead,
-            count,
-            len,
-        };
+        return None;
     }
-    let inner = or_level(
-        names,
-        name_ends,
-        s,
-        depth - 1,
-        ahead.next,
-        text,
-        ends,
-        marks,
-        columns,
-        ties,
-        distances,
-        codes,
-        count,
-        len,
-    );
-    if !inner.ok {
-        return inner;
-    }
+    let inner = or_level(names, name_ends, s, depth - 1, ahead.next, query)?;
     let close = inner.ahead;
-    let mut outer = inner;
-    outer.at = close.next;
-    let after = lexer::look(s, close.next);
-    outer.ahead = after;
-    outer.ok = close.kind == lexer::RPAREN;
-    outer
-}
-
-// The answer to all bytes that are no query.
-fn refusal() -> Reading
-    ensures { result ≡ refused_reading }
-{
-    let words = lexer::Words {
-        text: [0; lexer::MAX_QUERY],
-        ends: [0; lexer::MAX_WORDS],
-        marks: [0; lexer::MAX_WORDS],
-        columns: [0; lexer::MAX_WORDS],
-        ties: [0; lexer::MAX_WORDS],
-        distances: [0; lexer::MAX_WORDS],
-        count: 0,
-    };
-    let ops = Ops {
-        codes: [0; MAX_CODES],
-        len: 0,
-    };
-    let query = Query {
-        words: words,
-        ops: ops,
-    };
-    Reading {
-        ok: false,
-        query: query,
+    if close.kind != Kind::RightParen {
+        return None;
     }
+    let after = lexer::look(s, close.next);
+    Some(Parse {
+        at: close.next,
+        ahead: after,
+    })
 }
 
-// Reads a query, where the table's columns have the lent names.
-pub fn read(names: &[u8], ends: &[u32], text: &[u8]) -> Reading
+// Reads a query, where the table's columns have the lent names; bytes that are no query are refused.
+pub fn read(names: &[u8], ends: &[u32], text: &[u8]) -> Option<Query>
     ensures reader { result ≡ read_of (cut names.now ends.now) text.now }
     ensures meaning { Compiles (cut names.now ends.now) text.now result }
 {
     if lexer::MAX_QUERY < text.len() {
-        return refusal();
+        return None;
     }
-    let mut bytes = [0u8; lexer::MAX_QUERY];
-    let mut word_ends = [0u16; lexer::MAX_WORDS];
-    let mut marks = [0u8; lexer::MAX_WORDS];
-    let mut columns = [0u16; lexer::MAX_WORDS];
-    let mut ties = [0u8; lexer::MAX_WORDS];
-    let mut distances = [0u16; lexer::MAX_WORDS];
-    let mut codes = [0u8; MAX_CODES];
-    let parse = or_level(
-        names,
-        ends,
-        text,
-        MAX_DEPTH,
-        0,
-        &mut bytes,
-        &mut word_ends,
-        &mut marks,
-        &mut columns,
-        &mut ties,
-        &mut distances,
-        &mut codes,
-        0,
-        0,
-    );
-    if !parse.ok {
-        return refusal();
-    }
+    let mut query = Query {
+        words: lexer::Words::none(),
+        ops: Ops {
+            codes: [0; MAX_CODES],
+            len: 0,
+        },
+    };
+    let parse = or_level(names, ends, text, MAX_DEPTH, 0, &mut query)?;
     let ahead = parse.ahead;
-    if ahead.kind != lexer::END {
-        return refusal();
+    if ahead.kind != Kind::End {
+        return None;
     }
-    if lexer::MAX_WORDS < parse.count {
-        return refusal();
+    if lexer::MAX_WORDS < query.words.count {
+        return None;
     }
-    let words = lexer::Words {
-        text: bytes,
-        ends: word_ends,
-        marks: marks,
-        columns: columns,
-        ties: ties,
-        distances: distances,
-        count: parse.count,
-    };
-    let ops = Ops {
-        codes: codes,
-        len: parse.len,
-    };
-    let query = Query {
-        words: words,
-        ops: ops,
-    };
-    Reading {
-        ok: true,
-        query: query,
-    }
+    Some(query)
 }

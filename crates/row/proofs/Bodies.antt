@@ -1,4 +1,5 @@
 -- What a body is made of: its numbers before the closing 0. Its positions are read one after the other, exactly (`stepped`).
+use Rattle.std.specs.Prelude.{Option, Some, None}
 use Prim.Native.Nat.{ℕ, zero, suc, ◌+◌, ◌-◌, ◌≤◌, ◌<◌}
 use native.Mathlib.Omega.{arith}
 use mathlib.Core.Path.{◌≡◌, refl, sym, ap, ◌∙◌, subst}
@@ -12,7 +13,6 @@ use Rattle.doclist.proofs.Numbers.{all_append, next_number}
 use Rattle.row.specs.Row.{body_bytes, BodyAt}
 use Rattle.row.specs.Walk.{Spot, column_spots, spots, position_step, step_of, Ahead}
 use Rattle.row.specs.declared.Step.{Step}
-use Rattle.row.specs.declared.Step.TheVariants.{At, Done}
 
 -- ---- the closing 0
 
@@ -29,20 +29,23 @@ body_length cs = ap length (body_closes cs) ∙ length-append (open_bytes cs) (0
 
 -- ---- a step
 
+abbrev pub at_step : ℕ → ℕ → ℕ → Step
+at_step column position next = record { column = column; position = position; next = next }
+
 -- what comes next where these positions are ahead
-abbrev pub Stepped : List ℕ → List Spot → Step → Type 0
-Stepped leaves [] r = r ≡ Done
+abbrev pub Stepped : List ℕ → List Spot → Option Step → Type 0
+Stepped leaves [] r = r ≡ None
 Stepped leaves (s ∷ ahead) r =
-    (next : ℕ) × (r ≡ At s.column s.position next) × Ahead leaves s.column s.position next ahead
+    (next : ℕ) × (r ≡ Some (at_step s.column s.position next)) × Ahead leaves s.column s.position next ahead
 
 -- the numbers of further positions of a column and of further columns
 abbrev remaining : ℕ → List ℕ → List Column → List ℕ
 remaining base ps cs = position_numbers base ps ++ (column_numbers cs ++ (0 ∷ []))
 
-position_good : (column base p next : ℕ) → base ≤ p → p < position_limit → position_step column base (p - base + 2) next ≡ At column p next
+position_good : (column base p next : ℕ) → base ≤ p → p < position_limit → position_step column base (p - base + 2) next ≡ Some (at_step column p next)
 position_good column base p next hb hp =
     simp (le-ltb (p - base + 2) 2 (omega arith), lt-ltb base position_limit (omega arith), lt-ltb (base + (p - base + 2 - 2)) position_limit (omega arith))
-    (ap (λ (n : ℕ). At column n next) (omega arith))
+    (ap (λ (n : ℕ). Some (at_step column n next)) (omega arith))
 
 module _ (leaves rest : List ℕ) where
   -- a position that is read: the rest of its column and the columns after it are ahead
@@ -53,7 +56,7 @@ module _ (leaves rest : List ℕ) where
       → Columns (suc column) 16 cs
       → (next : ℕ)
       × (read_at leaves at ≡ Value (p - base + 2) next)
-      × (position_step column base (p - base + 2) next ≡ At column p next)
+      × (position_step column base (p - base + 2) next ≡ Some (at_step column p next))
       × Ahead leaves column p next (column_spots column ps ++ spots cs)
   read_position column base at low p ps cs e hb r h =
       let n = next_number leaves at (p - base + 2) (remaining p ps cs) rest (omega (arith, r.1)) e in
@@ -95,7 +98,7 @@ module _ (leaves rest : List ℕ) where
       (three.0, simp (one.0, two.0, three.1) three.2, three.3)
 
   -- at the end
-  step_end : (column base at : ℕ) → drop at leaves ≡ encode_all (0 ∷ []) ++ rest → step_of leaves column base at ≡ Done
+  step_end : (column base at : ℕ) → drop at leaves ≡ encode_all (0 ∷ []) ++ rest → step_of leaves column base at ≡ None
   step_end column base at e = let n = next_number leaves at 0 [] rest (omega arith) e in simp n.0
 
   step_rest : (column base at low : ℕ) (ps : List ℕ) (cs : List Column)

@@ -6,16 +6,16 @@
 // Column 0 is not announced, and the sum of the positions starts anew in each column.
 #![tactic(auto)]
 
-ghost use Rattle.std.specs.Prelude.{◌≡◌, ◌^◌, ◌<◌, drop};
+ghost use Rattle.std.specs.Prelude.{◌≡◌, drop};
 ghost use Rattle.common.specs.Bits.{contains};
-ghost use Rattle.row.specs.Walk.{position_step, step_of, opened_of, first_of, First, NextPlace};
+ghost use Rattle.row.specs.Walk.{position_step, step_of, opened_of, place_of, first_of, First, NextPlace};
 
 use varint::Varint;
 
-// The number that ends a body.
+// These two are numbers of the FTS4 layout as they are stored, not kinds of ours, and so no enum. This one ends a body.
 const CLOSE: u64 = 0;
 
-// The number that stands before a column's.
+// This one stands before a column's number.
 const ANNOUNCE: u64 = 1;
 
 // What is added to a position's difference.
@@ -27,17 +27,21 @@ const POSITION_LIMIT: u64 = 0x8000_0000;
 // A set has 16 members at most.
 const SET_SIZE: usize = 16;
 
-// What comes next in a body.
+// The hits of a row: where the body of each starts in the leaves, and which of the query's words it matches.
+#[derive(Clone, Copy)]
+pub struct Row<'a> {
+    pub leaves: &'a [u8],
+    pub starts: &'a [u16],
+    pub masks: &'a [u16],
+}
+
+// A position that a body has next.
 #[derive(Drop)]
-enum Step {
-    // A position of a column; the next number stands at `next`.
-    At {
-        column: u64,
-        position: u64,
-        next: usize,
-    },
-    // No position comes next.
-    Done,
+struct Step {
+    column: u64,
+    position: u64,
+    // Where the number after it stands.
+    next: usize,
 }
 
 // A position of a row.
@@ -51,13 +55,6 @@ pub struct Place {
     pub next: usize,
 }
 
-// What a walk through a row comes to.
-#[derive(Drop)]
-pub enum Found {
-    At(Place),
-    Done,
-}
-
 // Whether a set of 16 bits has the member `i`.
 pub fn contains(set: u16, i: usize) -> bool
     ensures { result ≡ contains set i }
@@ -69,36 +66,29 @@ pub fn contains(set: u16, i: usize) -> bool
 }
 
 // The position that a number stands for, after the position `base` of its column.
-fn position(column: u64, base: u64, value: u64, next: usize) -> Step
+fn position(column: u64, base: u64, value: u64, next: usize) -> Option<Step>
     ensures { result ≡ position_step column base value next }
 {
-    if value < SHIFT {
-        return Step::Done;
+    let position = base.checked_add(value.checked_sub(SHIFT)?)?;
+    if POSITION_LIMIT <= position {
+        return None;
     }
-    if POSITION_LIMIT <= base {
-        return Step::Done;
-    }
-    let more = value - SHIFT;
-    if POSITION_LIMIT - base <= more {
-        return Step::Done;
-    }
-    let p = base + more;
-    Step::At {
+    Some(Step {
         column,
-        position: p,
+        position,
         next,
-    }
+    })
 }
 
 // The position after the position `base` of a column.
-fn step_from(leaves: &[u8], column: u64, base: u64, at: usize) -> Step
+fn step_from(leaves: &[u8], column: u64, base: u64, at: usize) -> Option<Step>
     ensures { result ≡ step_of leaves.now column base at }
 {
     let Varint::Value { value, next } = varint::read(leaves, at) else {
-        return Step::Done;
+        return None;
     };
     if value == CLOSE {
-        return Step::Done;
+        return None;
     }
     if value != ANNOUNCE {
         return position(column, base, value, next);
@@ -108,78 +98,69 @@ fn step_from(leaves: &[u8], column: u64, base: u64, at: usize) -> Step
         next: first_at,
     } = varint::read(leaves, next)
     else {
-        return Step::Done;
+        return None;
     };
     let Varint::Value {
         value: first,
         next: after,
     } = varint::read(leaves, first_at)
     else {
-        return Step::Done;
+        return None;
     };
     position(named, 0, first, after)
 }
 
 // The first position of a hit, if the hit matches the query's word number `i`.
-fn opened(leaves: &[u8], mask: u16, start: u16, i: usize) -> Step
+fn opened(leaves: &[u8], mask: u16, start: u16, i: usize) -> Option<Step>
     ensures { result ≡ opened_of leaves.now i start mask }
 {
     if contains(mask, i) {
         return step_from(leaves, 0, 0, start as usize);
     }
-    Step::Done
+    None
 }
 
-// The first position of the hits from the number `from` on that match the query's word number `i`.
-fn first_from(leaves: &[u8], starts: &[u16], masks: &[u16], i: usize, from: usize) -> Found
-    ensures { result ≡ first_of leaves.now i from (drop from starts.now) (drop from masks.now) }
+// The place of a step in the last of `hit` hits.
+#[inline(always)]
+fn place_of(hit: usize, step: Step) -> Place
+    ensures { result ≡ place_of hit step }
 {
-    let mut hit = from;
-    while hit < starts.len() {
-        if masks.len() <= hit {
-            return Found::Done;
-        }
-        if let Step::At {
-            column,
-            position,
-            next,
-        } = opened(leaves, masks[hit], starts[hit], i)
-        {
-            return Found::At(Place {
-                hit: hit + 1,
-                column,
-                position,
-                next,
-            });
-        }
-        hit += 1;
+    Place {
+        hit,
+        column: step.column,
+        position: step.position,
+        next: step.next,
     }
-    Found::Done
 }
 
-// The first position of a row's hits that match the query's word number `i`.
-pub fn first(leaves: &[u8], starts: &[u16], masks: &[u16], i: usize) -> Found
-    ensures { First leaves.now starts.now masks.now i result }
-{
-    first_from(leaves, starts, masks, i, 0)
-}
+impl Row<'_> {
+    // The first position of the hits from the number `from` on that match the query's word number `i`.
+    fn first_from(&self, i: usize, from: usize) -> Option<Place>
+        ensures { result ≡ first_of self.now.leaves.now i from (drop from self.now.starts.now) (drop from self.now.masks.now) }
+    {
+        for hit in from..self.starts.len().min(self.masks.len()) {
+            if let Some(step) = opened(self.leaves, self.masks[hit], self.starts[hit], i) {
+                return Some(place_of(hit + 1, step));
+            }
+        }
+        None
+    }
 
-// The next position, after one that was found.
-pub fn advance(leaves: &[u8], starts: &[u16], masks: &[u16], i: usize, place: Place) -> Found
-    ensures { NextPlace leaves.now starts.now masks.now i place result }
-{
-    let Step::At {
-        column,
-        position,
-        next,
-    } = step_from(leaves, place.column, place.position, place.next)
-    else {
-        return first_from(leaves, starts, masks, i, place.hit);
-    };
-    Found::At(Place {
-        hit: place.hit,
-        column,
-        position,
-        next,
-    })
+    // The first position of a row's hits that match the query's word number `i`.
+    pub fn first(&self, i: usize) -> Option<Place>
+        ensures { First self.now.leaves.now self.now.starts.now self.now.masks.now i result }
+    {
+        self.first_from(i, 0)
+    }
+
+    // The next position, after one that was found. Inlined, so that a place is not copied from call to call.
+    #[inline(always)]
+    pub fn advance(&self, i: usize, place: Place) -> Option<Place>
+        ensures { NextPlace self.now.leaves.now self.now.starts.now self.now.masks.now i place result }
+    {
+        let Some(step) = step_from(self.leaves, place.column, place.position, place.next) else {
+            return self.first_from(i, place.hit);
+        };
+        Some(place_of(place.hit, step))
+    }
 }

@@ -27,11 +27,19 @@ module _ (count : ℕ) (s : List ℕ) (r : LeafCheck) (k : CheckPromise count s 
   pub accepted_leaf : r ≡ Accepted → (true ≡ true) ↔ IsLeaf count s
   accepted_leaf e = (λ t. ((check.accepted_exactly count s).0 ((k Accepted).0 e)).1, λ t. refl)
 
-  pub shape_leaf : r ≡ Shape → (false ≡ true) ↔ IsLeaf count s
+  shape_leaf : r ≡ Shape → (false ≡ true) ↔ IsLeaf count s
   shape_leaf e = (false_not_true, λ t. absurd ((check.shape_exactly count s).0 ((k Shape).0 e) shape))
 
-  pub broken_leaf : r ≡ Broken → (false ≡ true) ↔ IsLeaf count s
+  broken_leaf : r ≡ Broken → (false ≡ true) ↔ IsLeaf count s
   broken_leaf e = (false_not_true, λ t. absurd (((check.broken_exactly count s).0 ((k Broken).0 e)).1 t.0 t.1))
+
+  pub other_leaf : (r ≡ Accepted → ⊥) → (false ≡ true) ↔ IsLeaf count s
+  other_leaf n = go r refl
+    where
+      go : (q : LeafCheck) → r ≡ q → (false ≡ true) ↔ IsLeaf count s
+      go Accepted e = absurd (n e)
+      go Shape e = shape_leaf e
+      go Broken e = broken_leaf e
 
 -- ---- parts of the bytes
 

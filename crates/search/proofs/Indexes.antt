@@ -3,7 +3,6 @@
 use Prim.Native.Nat.{ℕ, ◌-◌, ◌≤◌, ◌<◌}
 use native.Mathlib.Omega.{arith}
 use mathlib.Core.Path.{◌≡◌, refl, sym, ap, ◌∙◌, subst}
-use mathlib.Core.Bool.{true}
 use mathlib.Core.List.Permᴰ
 use mathlib.Core.List.{List, [], ◌∷◌, ◌++◌, Memᴰ, Permᴰ}
 use lib.ListN.{length, take, replicate, length-append}
@@ -12,8 +11,7 @@ use Rattle.common.specs.Bounds.{max_leaves}
 use Rattle.offsets.specs.Cut.{cut}
 use Rattle.offsets.proofs.Cuts.{length_cut}
 use Rattle.directory.specs.Age.{Pair, pairs, Dated, lent, NewestFirst}
-use Rattle.directory.specs.Order.{OrderIs, in_order, Ordered}
-use Rattle.directory.specs.declared.Order.{Order}
+use Rattle.directory.specs.Order.{OrderIs, in_order, OrderPlaced}
 use Rattle.directory.proofs.Permutations.{perm_member}
 use Rattle.directory.proofs.Ages.{newest_one}
 use Rattle.directory.proofs.Sorting.{upto_below, order_newest, newest_some}
@@ -45,17 +43,16 @@ module _ (ends levels indexes : List ℕ) (d : Dated levels indexes (length ends
   pairs_count = pairs_length levels indexes (d.indexes_each ∙ sym d.levels_each) ∙ d.levels_each
 
   -- the order that was made, lent as the first of its places
-  pub order_lent : (r : Order) → Ordered levels indexes (length ends) r → r.ok ≡ true → OrderIs (pairs levels indexes) (take (length ends - 0) r.places)
-  order_lent r o e =
-      let a = o.accepted e in
-      let c : length o.order ≡ length ends - 0 = omega (arith, sorted_length a, pairs_count) in
-      subst (OrderIs (pairs levels indexes)) (sym (ap (take (length ends - 0)) o.are ∙ take_at o.order _ (length ends - 0) c)) a
+  pub order_lent : {places : List ℕ} → OrderPlaced levels indexes places → OrderIs (pairs levels indexes) (take (length ends - 0) places)
+  order_lent o =
+      let c : length o.order ≡ length ends - 0 = omega (arith, sorted_length o.accepted, pairs_count) in
+      subst (OrderIs (pairs levels indexes)) (sym (ap (take (length ends - 0)) o.are ∙ take_at o.order _ (length ends - 0) c)) o.accepted
 
-  pub order_room : (r : Order) → Ordered levels indexes (length ends) r → r.ok ≡ true → length ends ≤ length r.places
-  order_room r o e =
+  pub order_room : {places : List ℕ} → OrderPlaced levels indexes places → length ends ≤ length places
+  order_room {places} o =
       let z : List ℕ = replicate (max_leaves - length o.order) 0 in
-      let l : length r.places ≡ length (o.order ++ z) = ap length o.are in
-      omega (arith, l, length-append o.order z, sorted_length (o.accepted e), pairs_count)
+      let l : length places ≡ length (o.order ++ z) = ap length o.are in
+      omega (arith, l, length-append o.order z, sorted_length o.accepted, pairs_count)
 
 module _ (count : ℕ) (leaves ends levels indexes : List ℕ) (d : Dated levels indexes (length ends)) where
   contents_count : (contents : List (List Term)) → AreLeaves count (cut leaves ends) contents → length contents ≡ length (pairs levels indexes)

@@ -4,6 +4,7 @@ use native.Mathlib.Omega.{arith}
 use mathlib.Core.Path.{◌≡◌, sym, ap, ◌∙◌, subst}
 use mathlib.Core.Logic.{◌↔◌, inl, inr}
 use mathlib.Core.Bool.{Bool, true, false}
+use Rattle.std.specs.Prelude.{Option, None, Some, is_some}
 use mathlib.Core.List.{List, [], ◌∷◌, ◌++◌, Permᴰ}
 use lib.IntN.{ℤ}
 use lib.ListN.{length}
@@ -17,7 +18,7 @@ use Rattle.directory.proofs.Placing.{sorted_length}
 use Rattle.leaf.specs.Leaf.{Term, AreLeaves}
 use Rattle.leaf.specs.Answers.{leaf_refusals}
 use Rattle.query.specs.Tree.{Tree}
-use Rattle.query.specs.declared.Reading.{Reading}
+use Rattle.query.specs.declared.Query.{Query}
 use Rattle.query.specs.Reading.{Compiles}
 use Rattle.query.proofs.Bounds.{reads_words, reads_filled}
 use Rattle.meaning.specs.Listing.{Answers}
@@ -34,6 +35,9 @@ use Rattle.search.proofs.Order.{leaf_at, none_broken, first_broken}
 abbrev pub RefusedWith : ℕ → Answer → Answer → List ℤ → Type 0
 RefusedWith n a r room = (r ≡ a) × (room ≡ zeros n)
 
+same_query : {a b : Query} → Some a ≡ Some b → a ≡ b
+same_query e = cc
+
 -- a search in a room of `n` numbers answered `r` and left `room`; the test of its shape gave `good`
 module _ (x : Input) (n : ℕ) (r : Answer) (room : List ℤ) (good : Bool) (test : (good ≡ true) ↔ ShapeRight x) where
   pub shape_refused : good ≡ false → RefusedWith n answer.Shape r room → Searched x n r room
@@ -47,13 +51,13 @@ module _ (x : Input) (n : ℕ) (r : Answer) (room : List ℤ) (good : Bool) (tes
       }
 
   -- the shape is right, and the query was read
-  module _ (right : good ≡ true) (reading : Reading) (compiles : Compiles (column_names x) x.query reading) where
+  module _ (right : good ≡ true) (reading : Option Query) (compiles : Compiles (column_names x) x.query reading) where
     shape : ShapeRight x
     shape = test.0 right
 
-    pub query_refused : reading.ok ≡ false → RefusedWith n answer.Query r room → Searched x n r room
+    pub query_refused : reading ≡ None → RefusedWith n answer.Query r room → Searched x n r room
     query_refused e a =
-        let h : (tree : Tree) → IsQuery x tree → ⊥ = λ tree q. false_not_true (sym e ∙ compiles.accepted.1 (tree, q)) in
+        let h : (tree : Tree) → IsQuery x tree → ⊥ = λ tree q. false_not_true (sym (ap is_some e) ∙ compiles.accepted.1 (tree, q)) in
         record {
           docids = [];
           listed = λ tree index s q is. absurd (h tree q);
@@ -62,10 +66,10 @@ module _ (x : Input) (n : ℕ) (r : Answer) (room : List ℤ) (good : Bool) (tes
         }
 
     -- it is a query, and `i` leaves are sound
-    module _ (ok : reading.ok ≡ true) (i : ℕ) (checked : SoundLeaves (length x.name_ends) (leaf_bytes x) i) where
+    module _ (compiled : Query) (ok : reading ≡ Some compiled) (i : ℕ) (checked : SoundLeaves (length x.name_ends) (leaf_bytes x) i) where
       -- the shape and the query are right: the leaves decide, and then the room
       behind_query : (need : ℕ) → FirstDue (leaf_refusals (column_count x) 0 (leaf_bytes x) ++ room_refusal n need ∷ []) (numbers 0 need) (numbers_of r) → FirstDue (refusals x n need) (numbers 0 need) (numbers_of r)
-      behind_query need d = inr (shape, inr (compiles.accepted.0 ok, d))
+      behind_query need d = inr (shape, inr (compiles.accepted.0 (ap is_some ok), d))
 
       pub leaf_refused : i < length x.leaf_ends → RefusedWith n (answer.Leaf i) r room → Searched x n r room
       leaf_refused h a =
@@ -81,7 +85,7 @@ module _ (x : Input) (n : ℕ) (r : Answer) (room : List ℤ) (good : Bool) (tes
 
       -- all leaves are sound, and the engine ran through them by age
       module _ (all : length x.leaf_ends ≤ i) (order : List ℕ) (by_age : OrderIs (leaf_pairs x) order) (found : ℕ) (before : List ℤ)
-          (run : Ran reading.query x.leaves x.leaf_ends order n found before) where
+          (run : Ran compiled x.leaves x.leaf_ends order n found before) where
         leaves : AreLeaves (column_count x) (leaf_bytes x) checked.index
         leaves =
             let l = length_cut x.leaves x.leaf_ends in
@@ -91,7 +95,7 @@ module _ (x : Input) (n : ℕ) (r : Answer) (room : List ℤ) (good : Bool) (tes
         every tree index s q is =
             let c = sorted_length by_age ∙ pairs_count x.leaf_ends x.levels x.indexes s.dated in
             run.listed (length x.name_ends) tree index
-            (record { fit = record { filled = reads_filled q; few = reads_words q }; same = ap (λ (m : Reading). m.query) (compiles.content tree q) })
+            (record { fit = record { filled = reads_filled q; few = reads_words q }; same = same_query (sym ok ∙ compiles.content tree q) })
             (record {
               cuts = s.leaf_cuts;
               few = omega (arith, s.few_leaves);

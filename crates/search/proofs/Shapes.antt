@@ -1,5 +1,7 @@
 -- The tests of a search's shape, one by one.
-use Prim.Native.Nat.{◌≤◌, ◌<◌}
+use Prim.Native.Nat.{ℕ, ◌≤◌, ◌<◌}
+use mathlib.Core.List.{List}
+use Rattle.std.specs.Prelude.{Option, IsSome}
 use native.Mathlib.Omega.{arith}
 use mathlib.Core.Path.{◌≡◌, sym, ◌∙◌}
 use mathlib.Core.Logic.{◌↔◌}
@@ -11,7 +13,6 @@ use Rattle.offsets.specs.Cut.{Cuts}
 use Rattle.offsets.specs.Names.{Names}
 use Rattle.offsets.proofs.Cuts.{length_cut}
 use Rattle.directory.specs.Order.{Ordered}
-use Rattle.directory.specs.declared.Order.{Order}
 use Rattle.search.specs.Search.{Input, column_names, ShapeRight}
 
 module _ (x : Input) where
@@ -26,7 +27,7 @@ module _ (x : Input) where
 
   -- all but the pairs was tested
   pub shape_told : Cuts x.names x.name_ends × Names (column_names x) → Cuts x.leaves x.leaf_ends → length x.leaves ≤ max_index_bytes
-      → (r : Order) → Ordered x.levels x.indexes (length x.leaf_ends) r → (r.ok ≡ true) ↔ ShapeRight x
+      → (r : Option (List ℕ)) → Ordered x.levels x.indexes (length x.leaf_ends) r → IsSome r ↔ ShapeRight x
   shape_told n c h r o = (
     λ e. let d = o.exact.0 e in record { name_cuts = n.0; good_names = n.1; leaf_cuts = c; few_leaves = d.0; few_bytes = h; dated = d.1 },
     λ s. o.exact.1 (s.few_leaves, s.dated),

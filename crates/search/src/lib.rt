@@ -1,18 +1,17 @@
 // The search of document 01: all docids that satisfy a query over the leaves of an index.
 #![tactic(auto)]
 
-ghost use Rattle.std.specs.Prelude.{◌≡◌, ◌↔◌, true, List, ℕ, ◌≤◌, length};
+ghost use Rattle.std.specs.Prelude.{◌≡◌, ◌↔◌, true, List, ℕ, ◌≤◌, length, IsSome, IfSome};
 ghost use Rattle.common.specs.Rooms.{zeros};
 ghost use Rattle.offsets.specs.Cut.{cut};
-ghost use Rattle.directory.specs.Order.{Ordered};
+ghost use Rattle.directory.specs.Order.{OrderPlaced};
 ghost use Rattle.leaf.specs.Leaf.{IsLeaf};
-ghost use Rattle.search.specs.Search.{ShapeRight, Searched};
+ghost use Rattle.search.specs.Search.{numbers_of, ShapeRight, Searched};
 ghost use Rattle.search.specs.Checking.{Checkable, SoundLeaves};
 
-use directory::Order;
 use leaf::LeafCheck;
 
-// What a search answers.
+// What a search answers. An own enum: the numbers of the answers are said of its cases (document 01).
 #[derive(Clone, Copy)]
 pub enum Answer {
     // The docids are in the room: how many.
@@ -27,6 +26,31 @@ pub enum Answer {
     Room(usize),
 }
 
+impl Answer {
+    // Its number, from 0 to 4.
+    pub fn number(self) -> u32
+        ensures { result ≡ (numbers_of self).number }
+    {
+        match self {
+            Answer::Found(_) => 0,
+            Answer::Shape => 1,
+            Answer::Query => 2,
+            Answer::Leaf(_) => 3,
+            Answer::Room(_) => 4,
+        }
+    }
+
+    // The number beside it.
+    pub fn second(self) -> usize
+        ensures { result ≡ (numbers_of self).second }
+    {
+        match self {
+            Answer::Shape | Answer::Query => 0,
+            Answer::Found(n) | Answer::Leaf(n) | Answer::Room(n) => n,
+        }
+    }
+}
+
 // The order of the leaves by age, which is refused where number 1 is due.
 fn order_of(
     names: &[u8],
@@ -35,22 +59,18 @@ fn order_of(
     leaf_ends: &[u32],
     levels: &[u32],
     indexes: &[u32],
-) -> Order
-    ensures shape { (query : List ℕ) → (result.ok ≡ true) ↔ ShapeRight (record { names = names.entry.now; name_ends = name_ends.now; leaves = leaves.now; leaf_ends = leaf_ends.now; levels = levels.now; indexes = indexes.now; query = query }) }
-    ensures order { result.ok ≡ true → Ordered levels.now indexes.now (length leaf_ends.now) result }
+) -> Option<[u8; 8]>
+    ensures shape { (query : List ℕ) → IsSome result ↔ ShapeRight (record { names = names.entry.now; name_ends = name_ends.now; leaves = leaves.now; leaf_ends = leaf_ends.now; levels = levels.now; indexes = indexes.now; query = query }) }
+    ensures order { IfSome result (OrderPlaced levels.now indexes.now) }
 {
-    let refused = Order {
-        ok: false,
-        places: [0u8; 8],
-    };
     if !offsets::are_names(names, name_ends) {
-        return refused;
+        return None;
     }
     if !offsets::is_cut(leaves, leaf_ends) {
-        return refused;
+        return None;
     }
     if common::MAX_INDEX_BYTES < leaves.len() {
-        return refused;
+        return None;
     }
     directory::newest_first(levels, indexes, leaf_ends.len())
 }
@@ -59,11 +79,7 @@ fn order_of(
 fn is_leaf(leaf: &[u8], columns: u32) -> bool
     ensures { Checkable columns leaf.now → (result ≡ true) ↔ IsLeaf columns leaf.now }
 {
-    match leaf::check(leaf, columns) {
-        LeafCheck::Accepted => true,
-        LeafCheck::Shape => false,
-        LeafCheck::Broken => false,
-    }
+    matches!(leaf::check(leaf, columns), LeafCheck::Accepted)
 }
 
 // How many leaves keep every rule, in the order lent, up to the first that breaks one.
@@ -71,21 +87,19 @@ pub fn sound_leaves(leaves: &[u8], ends: &[u32], columns: u32) -> usize
     ensures few { result ≤ length ends.now }
     ensures sound { Checkable columns leaves.now → SoundLeaves columns (cut leaves.now ends.now) result }
 {
-    let mut i: usize = 0;
-    while i < ends.len() {
+    for i in 0..ends.len() {
         if !is_leaf(offsets::part(leaves, ends, i), columns) {
             return i;
         }
-        i += 1;
     }
-    i
+    ends.len()
 }
 
 // Clears the room, and refuses with the answer.
 fn refused(room: &mut [i64], answer: Answer) -> Answer
     ensures { (result ≡ answer) × (room.new ≡ zeros (length room.old)) }
 {
-    common::clear(room);
+    room.fill(0);
     answer
 }
 
@@ -103,21 +117,17 @@ pub fn search(
 ) -> Answer
     ensures { Searched (record { names = names.entry.now; name_ends = name_ends.now; leaves = leaves.now; leaf_ends = leaf_ends.now; levels = levels.now; indexes = indexes.now; query = query.now }) (length room.old) result room.new }
 {
-    let order = order_of(names, name_ends, leaves, leaf_ends, levels, indexes);
-    if !order.ok {
+    let Some(places) = order_of(names, name_ends, leaves, leaf_ends, levels, indexes) else {
         return refused(room, Answer::Shape);
-    }
-    let reading = query::read(names, name_ends, query);
-    if !reading.ok {
+    };
+    let Some(compiled) = query::read(names, name_ends, query) else {
         return refused(room, Answer::Query);
-    }
+    };
     let count = leaf_ends.len();
     let sound = sound_leaves(leaves, leaf_ends, name_ends.len() as u32);
     if sound < count {
         return refused(room, Answer::Leaf(sound));
     }
-    let compiled = reading.query;
-    let places = order.places;
     let found = engine::run(compiled, leaves, leaf_ends, &places[0..count], room);
     if room.len() < found {
         return refused(room, Answer::Room(found));

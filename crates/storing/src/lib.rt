@@ -10,23 +10,19 @@ ghost use Rattle.varint.specs.Varint.{encode};
 ghost use Rattle.leaf.specs.Leaf.{shared, sized};
 ghost use Rattle.storing.specs.Words.{word_bytes};
 
-use varint::Written;
+use varint::NoRoom;
 
 // The length of the longest prefix that two words share.
 pub fn shared_prefix(v: &[u8], w: &[u8]) -> usize
     ensures { result ≡ shared v.now w.now }
 {
-    let mut i: usize = 0;
-    while i < v.len() {
-        if w.len() <= i {
-            return i;
-        }
+    let end = v.len().min(w.len());
+    for i in 0..end {
         if v[i] != w[i] {
             return i;
         }
-        i += 1;
     }
-    i
+    end
 }
 
 // Puts a number.
@@ -34,8 +30,8 @@ pub fn put_number(out: &mut [u8], v: u64) -> usize
     ensures { (result ≡ length (encode v)) × (out.new ≡ fitted (encode v) out.old) }
 {
     match varint::write(out, v) {
-        Written::Bytes(n) => n,
-        Written::NoRoom(n) => n,
+        Ok(n) => n,
+        Err(NoRoom { need }) => need,
     }
 }
 
@@ -43,13 +39,8 @@ pub fn put_number(out: &mut [u8], v: u64) -> usize
 pub fn put_bytes(out: &mut [u8], bytes: &[u8])
     ensures { out.new ≡ fitted bytes.now out.old }
 {
-    if out.len() < bytes.len() {
-        return;
-    }
-    let mut i: usize = 0;
-    while i < bytes.len() {
-        out[i] = bytes[i];
-        i += 1;
+    if bytes.len() <= out.len() {
+        out[..bytes.len()].copy_from_slice(bytes);
     }
 }
 
@@ -96,9 +87,5 @@ pub fn put_word(out: &mut [u8], before: &[u8], w: &[u8]) -> usize
 pub fn clear(room: &mut [u8])
     ensures { room.new ≡ replicate (length room.old) 0 }
 {
-    let mut i: usize = 0;
-    while i < room.len() {
-        room[i] = 0;
-        i += 1;
-    }
+    room.fill(0);
 }

@@ -27,10 +27,8 @@ pub extern "C" fn timed_numbers(s: &[u8], places: &[u32]) -> u64
     ensures { result ≡ sum_at s.now places.now % 2 ^ 63 }
 {
     let mut sum: u64 = 0;
-    let mut i = 0;
-    while i < places.len() {
-        sum = (sum + number(s, places[i] as usize)) % SUM_LIMIT;
-        i += 1;
+    for place in places {
+        sum = (sum + number(s, *place as usize)) % SUM_LIMIT;
     }
     sum
 }

@@ -1,7 +1,7 @@
 // Words of document 01: the tokens of "simple".
 #![tactic(auto)]
 
-ghost use Rattle.std.specs.Prelude.{◌≡◌, ◌+◌, drop};
+ghost use Rattle.std.specs.Prelude.{◌≡◌, ℕ, ◌+◌, ◌<◌, Bool, drop};
 ghost use Rattle.common.specs.Bytes.{span};
 ghost use Rattle.tokenizer.specs.Word.{is_digit, is_word, fold, entry_of, word_start, next_word, NextWordIs};
 
@@ -72,33 +72,17 @@ pub fn folded(b: u8) -> u8
     (entry(b) % WORD) as u8
 }
 
-// The first place from `at` on whose byte is a word byte. With none it is the text's length, or `at` where that is more.
-fn skip_separators(s: &[u8], at: usize) -> usize
-    ensures { result ≡ word_start s.now at }
+// The first place from `at` on whose byte fails the test. With none it is the text's length, or `at` where that is more.
+fn skip<F: Fn(u8) -> bool>(s: &[u8], at: usize, passes: F) -> usize
+    requires { F.IsAlwaysCallable passes }
+    ensures { (test : ℕ → Bool) → ((b : ℕ) (r : Bool) → b < 256 → F.post passes b r → r ≡ test b) → result ≡ at + span test (drop at s.now) }
 {
-    let mut i = at;
-    while i < s.len() {
-        if is_word(s[i]) {
-            return i;
-        }
-        i += 1;
-    }
-    i
-}
-
-// The first place from `at` on whose byte is no word byte. With none it is the text's length, or `at` where that is more.
-fn skip_word(s: &[u8], at: usize) -> usize
-    ensures { result ≡ at + span is_word (drop at s.now) }
-{
-    let mut i = at;
-    while i < s.len() {
-        if is_word(s[i]) {
-            i += 1;
-        } else {
+    for i in at..s.len() {
+        if !passes(s[i]) {
             return i;
         }
     }
-    i
+    at.max(s.len())
 }
 
 // The next word at or after a place.
@@ -106,11 +90,11 @@ pub fn next_word(s: &[u8], at: usize) -> Word
     ensures reader { result ≡ next_word s.now at }
     ensures next { NextWordIs s.now at result }
 {
-    let start = skip_separators(s, at);
+    let start = skip(s, at, |b| !is_word(b));
     if s.len() <= start {
         return Word::Nothing;
     }
-    let end = skip_word(s, start);
+    let end = skip(s, start, is_word);
     if end - start <= common::MAX_WORD {
         return Word::Found { start, end };
     }

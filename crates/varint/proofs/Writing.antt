@@ -6,10 +6,10 @@ use mathlib.Core.Path.{◌≡◌, refl, sym, ap, ◌∙◌}
 use mathlib.Core.List.{List, [], ◌++◌, append-nil}
 use lib.ListN.{length, set, take, drop, length-set}
 use borrow.Author.Tests.{le-leb, lt-leb}
+use Rattle.std.specs.Prelude.{Ok, Err}
 use Rattle.common.specs.Bytes.{over}
 use Rattle.common.proofs.Rooms.{set_front, set_after, over_whole, fitted_over}
 use Rattle.varint.specs.Varint.{encode_in, encode, written_of, room_after}
-use Rattle.varint.specs.declared.Written.TheVariants.{Bytes, NoRoom}
 use Rattle.varint.proofs.Laws.{encode_small, encode_big, encode_pos, encode_most}
 
 -- ---- how many bytes a number takes
@@ -54,15 +54,7 @@ pub record Begun (most v : ℕ) (before : List ℕ) (i rest : ℕ) (room : List 
   pub behind : drop i room ≡ drop i before
   pub same : length room ≡ length before
 
-pub begin : (most v : ℕ) (room : List ℕ) → 0 < most → v < 128 ^ most → Begun most v room 0 v room
-begin zero v room z h = absurd (not-suc-le-zero z)
-begin (suc most) v room z h =
-    record { left = most; small = h; count = omega arith; front = refl; behind = refl; same = refl }
-
 module _ {most v : ℕ} {before : List ℕ} {i rest : ℕ} {room : List ℕ} (w : Begun most v before i rest room) where
-  pub begun_within : length (encode_in most v) ≤ length before → i < length room
-  begun_within h = omega (arith, w.count, w.same, encode_pos (suc w.left) rest (omega arith))
-
   pub begun_more : i < length room → 128 ≤ rest → Begun most v before (i + 1) (rest / 128) (set room i (128 + rest % 128))
   begun_more h b = go w.left w.small w.count w.front
     where
@@ -93,12 +85,12 @@ module _ {most v : ℕ} {before : List ℕ} {i rest : ℕ} {room : List ℕ} (w 
 -- ---- what the writer answers
 
 module _ (v : ℕ) (room : List ℕ) (n : ℕ) (e : n ≡ length (encode v)) where
-  pub no_room : length room < n → (NoRoom n ≡ written_of v room) × (room ≡ room_after v room)
+  pub no_room : length room < n → (Err (record { need = n }) ≡ written_of v room) × (room ≡ room_after v room)
   no_room f =
       let g : length room < length (encode v) = omega arith in
-      rw (lt-leb (length (encode v)) (length room) g) (ap NoRoom e, refl)
+      rw (lt-leb (length (encode v)) (length room) g) (ap (λ k. Err (record { need = k })) e, refl)
 
-  pub written : n ≤ length room → (after : List ℕ) → after ≡ over (encode v) room → (Bytes n ≡ written_of v room) × (after ≡ room_after v room)
+  pub written : n ≤ length room → (after : List ℕ) → after ≡ over (encode v) room → (Ok n ≡ written_of v room) × (after ≡ room_after v room)
   written f after p =
       let g : length (encode v) ≤ length room = omega arith in
-      (rw (le-leb (length (encode v)) (length room) g) (ap Bytes e), p ∙ sym (fitted_over (encode v) room g))
+      (rw (le-leb (length (encode v)) (length room) g) (ap Ok e), p ∙ sym (fitted_over (encode v) room g))

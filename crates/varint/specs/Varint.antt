@@ -3,13 +3,12 @@
 -- number of bytes is a parameter, `most`. Document 02, §9, sets it to ten, for the values 0 to 2^64 - 1: a tenth byte is 1. A
 -- number below 2^63 takes at most nine (`nine_bytes`), and only docids and their differences may be larger: the rules of lists and
 -- leaves bound every other stored number.
-use Rattle.std.specs.Prelude.{ℕ, zero, suc, ◌+◌, ◌-◌, ◌*◌, ◌/◌, ◌%◌, ◌^◌, ◌<◌, ◌≡◌, List, [], ◌∷◌, ◌++◌, length, get_or, drop, ltb, leb, eqb}
+use Rattle.std.specs.Prelude.{ℕ, zero, suc, ◌+◌, ◌-◌, ◌*◌, ◌/◌, ◌%◌, ◌^◌, ◌<◌, ◌≡◌, List, [], ◌∷◌, ◌++◌, length, get_or, drop, ltb, leb, eqb, Result, Ok, Err}
 use Rattle.common.specs.Pick.{pick}
 use Rattle.common.specs.Bytes.{fitted}
 use Rattle.varint.specs.declared.Varint.{Varint}
 use Rattle.varint.specs.declared.Varint.TheVariants.{Value, Refused}
-use Rattle.varint.specs.declared.Written.{Written}
-use Rattle.varint.specs.declared.Written.TheVariants.{Bytes, NoRoom}
+use Rattle.varint.specs.declared.NoRoom.{NoRoom}
 
 -- ---- how a number is stored
 
@@ -80,9 +79,9 @@ on_varint none Refused go = none
 
 -- ---- what writing to the front of a room gives
 
--- the answer: how many bytes it took, or no room
-abbrev pub written_of : ℕ → List ℕ → Written
-written_of v room = pick (leb (length (encode v)) (length room)) (Bytes (length (encode v))) (NoRoom (length (encode v)))
+-- the answer: how many bytes it took, or no room for those that it needs
+abbrev pub written_of : ℕ → List ℕ → Result ℕ NoRoom
+written_of v room = pick (leb (length (encode v)) (length room)) (Ok (length (encode v))) (Err (record { need = length (encode v) }))
 
 -- the number and then the rest of the room as it was; a refusal leaves all of it as it was
 abbrev pub room_after : ℕ → List ℕ → List ℕ

@@ -20,7 +20,7 @@ const BASE: u64 = 128;
 // The bit that is set in every byte but the last.
 const TOP_BIT: u64 = 0x80;
 
-// What is read at a place.
+// What is read at a place. No Option: document 01 asks that the number reader answers an enum, which the leaf and list readers take apart by `let .. else`.
 #[derive(Drop)]
 pub enum Varint {
     // The number, and the place after its last byte.
@@ -29,23 +29,18 @@ pub enum Varint {
     Refused,
 }
 
-// What became of a number that was to be written.
-#[derive(Drop)]
-pub enum Written {
-    // How many bytes the number took.
-    Bytes(usize),
-    // How many bytes it needs.
-    NoRoom(usize),
+// A room is too small for the number that was to be written.
+#[derive(Clone, Copy)]
+pub struct NoRoom {
+    // How many bytes the number needs.
+    pub need: usize,
 }
 
 // Whether a byte is a tenth one and above 1: the number would have more than 64 bits.
 fn is_over(scale: u64, b: u64) -> bool
     ensures { (result ≡ true) ↔ ((scale ≡ tenth) × (1 < b)) }
 {
-    if scale == TENTH {
-        return 1 < b;
-    }
-    false
+    scale == TENTH && 1 < b
 }
 
 // The number that is stored from the place `at` on, read byte by byte. Open to `opening::front_at`, which reads the first docid
@@ -56,9 +51,9 @@ pub fn read_long(s: &[u8], at: usize) -> Varint
 {
     let mut value: u64 = 0;
     let mut scale: u64 = 1;
-    let mut i = at;
-    let mut left = MAX_VARINT;
-    while 0 < left {
+    // As many turns as a number may have bytes: the compiler writes them out one by one.
+    for passed in 0..MAX_VARINT {
+        let i = at + passed;
         if s.len() <= i {
             return Varint::Refused;
         }
@@ -80,8 +75,6 @@ pub fn read_long(s: &[u8], at: usize) -> Varint
         }
         value += (b - TOP_BIT) * scale;
         scale *= BASE;
-        i += 1;
-        left -= 1;
     }
     Varint::Refused
 }
@@ -109,13 +102,14 @@ pub fn read(s: &[u8], at: usize) -> Varint
 pub fn size(v: u64) -> usize
     ensures { result ≡ length (encode v) }
 {
-    let mut rest = v;
-    let mut n: usize = 1;
-    while BASE <= rest && n < MAX_VARINT {
-        rest /= BASE;
-        n += 1;
+    let mut left = v;
+    for n in 1..MAX_VARINT {
+        if left < BASE {
+            return n;
+        }
+        left /= BASE;
     }
-    n
+    MAX_VARINT
 }
 
 // Puts the number's bytes at the front of a room that holds them.
@@ -124,23 +118,24 @@ fn put(room: &mut [u8], v: u64)
     ensures { room.new ≡ over (encode v) room.old }
 {
     let mut rest = v;
-    let mut i: usize = 0;
-    while BASE <= rest {
-        room[i] = (TOP_BIT + rest % BASE) as u8;
+    for b in room.iter_mut() {
+        if rest < BASE {
+            *b = rest as u8;
+            return;
+        }
+        *b = (TOP_BIT + rest % BASE) as u8;
         rest /= BASE;
-        i += 1;
     }
-    room[i] = rest as u8;
 }
 
 // Puts the number at the front of the room, or answers how much it needs and leaves the room as it was.
-pub fn write(room: &mut [u8], v: u64) -> Written
+pub fn write(room: &mut [u8], v: u64) -> Result<usize, NoRoom>
     ensures { (result ≡ written_of v room.old) × (room.new ≡ room_after v room.old) }
 {
-    let n = size(v);
-    if room.len() < n {
-        return Written::NoRoom(n);
+    let need = size(v);
+    if room.len() < need {
+        return Err(NoRoom { need });
     }
     put(room, v);
-    Written::Bytes(n)
+    Ok(need)
 }

@@ -1,31 +1,20 @@
 -- The run: its test, its keys in order, and which of them are its rows.
-use Prim.Native.Nat.{ℕ, zero, suc, ◌+◌, ◌-◌, ◌≤◌, ◌<◌}
+use Prim.Native.Nat.{ℕ, zero, suc, ◌+◌, ◌≤◌, ◌<◌}
 use native.Mathlib.Omega.{arith}
 use mathlib.Core.Path.{◌≡◌, refl, ap}
-use mathlib.Core.Bool.{true, false}
+use mathlib.Core.Bool.{true}
 use mathlib.Core.Logic.{◌↔◌, ⊎_elim}
 use mathlib.Core.List.{List, [], ◌∷◌, Memᴰ}
 use lib.ListN.{length}
-use lib.Dec.{ltb}
-use borrow.Author.Tests.{lt-ltb, ltb-true}
 use Rattle.common.specs.Bytes.{within}
-use Rattle.common.proofs.Cases.{fails_exactly, same_or}
+use Rattle.common.proofs.Cases.{same_or}
 use Rattle.common.proofs.Numbers.{within_true, within_least, within_most}
 use Rattle.doclist.specs.Doclist.{Rising}
-use Rattle.verdict.specs.Sheet.{Within, RunRight, row_count, max_rows}
+use Rattle.verdict.specs.Sheet.{Within, row_count}
 
--- ---- the test of a run
+-- ---- the rows of a run
 
 module _ (first last : ℕ) where
-  pub not_run : last < first → (false ≡ true) ↔ RunRight first last
-  not_run h = fails_exactly (λ r. let o = r.in_order in omega arith)
-
-  pub run_exactly : first ≤ last → (ltb (last - first) max_rows ≡ true) ↔ RunRight first last
-  run_exactly h = (
-    λ e. let l = ltb-true (last - first) max_rows e in record { in_order = h; few_rows = omega arith },
-    λ r. let l = r.few_rows in lt-ltb (last - first) max_rows (omega arith),
-  )
-
   pub within_exactly : (d : ℕ) → (within first last d ≡ true) ↔ Within first last d
   within_exactly d = (λ e. (within_least first last d e, within_most first last d e), λ h. within_true first last d h.0 h.1)
 

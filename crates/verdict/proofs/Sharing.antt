@@ -4,23 +4,20 @@ use native.Mathlib.Nat.{le_of_suc-le-suc}
 use native.Mathlib.Numerals.{add-one}
 use native.Mathlib.Omega.{arith}
 use mathlib.Core.Path.{◌≡◌, sym, ◌∙◌, subst}
-use mathlib.Core.Bool.{true, false}
 use mathlib.Core.Logic.{◌↔◌, ◌⊎◌, inl, inr, ⊎_elim}
 use mathlib.Core.List.Memᴰ
 use mathlib.Core.List.{List, [], ◌∷◌, Memᴰ}
 use lib.IntN.{ℤ, pos}
 use lib.ListN.{length, get_or, drop, drop_of_length-le}
 use lib.Seq.{drop-cons}
-use borrow.Author.Tests.{ltb-true, ltb-false, lt-ltb, le-ltb}
-use lib.Dec.{ltb}
-use Rattle.common.proofs.Cases.{false_not_true, pick_case}
+use Rattle.common.proofs.Cases.{split}
 use Rattle.common.proofs.Members.{member_at}
 use Rattle.doclist.specs.Docid.{docid_limit, key_of}
 use Rattle.doclist.specs.Doclist.{Rising}
 use Rattle.doclist.proofs.Content.{rising_low}
-use Rattle.verdict.specs.Sheet.{Within, Verdicts}
+use Rattle.verdict.specs.Sheet.{Within, Verdicts, Least}
 use Rattle.verdict.specs.Counting.{Shown, Finds, SharedIs, TwiceIs, earlier_of}
-use Rattle.verdict.specs.declared.Shared.{Shared}
+use Rattle.std.specs.Prelude.{Option, Some, None, min}
 use Rattle.verdict.proofs.Shown.{shown_length, key_at}
 
 -- ---- what is ahead
@@ -43,21 +40,15 @@ Ahead first last a b i j =
 
 module _ (first last : ℕ) (a b : List ℤ) (i j : ℕ) (w : Ahead first last a b i j) where
   -- one of the two is at its end
-  pub left_ended : (k : ℕ) → length a ≤ i → (ds es : List ℕ) → Shown a ds → Shown b es → SharedIs first last ds es (record { found = false; key = k })
-  left_ended k h ds es s t =
+  pub left_ended : length a ≤ i → (ds es : List ℕ) → Shown a ds → Shown b es → SharedIs first last ds es None
+  left_ended h ds es s t =
       let e : drop i ds ≡ [] = drop_of_length-le ds (subst (λ n. n ≤ i) (shown_length s) h) in
-      record {
-        some = λ f. false_not_true f;
-        none = λ _ d p. Memᴰ.not-nil (subst (Memᴰ d) e (w ds es s t d p.0 p.1 p.2).0);
-      }
+      λ d p. Memᴰ.not-nil (subst (Memᴰ d) e (w ds es s t d p.0 p.1 p.2).0)
 
-  pub right_ended : (k : ℕ) → length b ≤ j → (ds es : List ℕ) → Shown a ds → Shown b es → SharedIs first last ds es (record { found = false; key = k })
-  right_ended k h ds es s t =
+  pub right_ended : length b ≤ j → (ds es : List ℕ) → Shown a ds → Shown b es → SharedIs first last ds es None
+  right_ended h ds es s t =
       let e : drop j es ≡ [] = drop_of_length-le es (subst (λ n. n ≤ j) (shown_length t) h) in
-      record {
-        some = λ f. false_not_true f;
-        none = λ _ d p. Memᴰ.not-nil (subst (Memᴰ d) e (w ds es s t d p.0 p.1 p.2).1);
-      }
+      λ d p. Memᴰ.not-nil (subst (Memᴰ d) e (w ds es s t d p.0 p.1 p.2).1)
 
   module _ (h : i < length a) (k : j < length b) where
     -- the smaller key of the second list is in no row ahead of the first
@@ -86,94 +77,53 @@ module _ (first last : ℕ) (a b : List ℤ) (i j : ℕ) (w : Ahead first last a
 
     -- one that is shared in the run is the least
     pub shared_here : key_of (get_or a i (pos 0)) ≡ key_of (get_or b j (pos 0)) → Within first last (key_of (get_or a i (pos 0))) → (ds es : List ℕ) → Shown a ds → Shown b es
-        → SharedIs first last ds es (record { found = true; key = key_of (get_or a i (pos 0)) })
+        → SharedIs first last ds es (Some (key_of (get_or a i (pos 0))))
     shared_here e in-run ds es s t =
         let x = key_at s i h in
         let y = key_at t j k in
         record {
-          some = λ _.
-              record {
-                has = (
-                  in-run,
-                  subst (λ d. Memᴰ d ds) (sym x) (member_at ds 0 i (subst (λ n. i < n) (shown_length s) h)),
-                  subst (λ d. Memᴰ d es) (sym (e ∙ y)) (member_at es 0 j (subst (λ n. j < n) (shown_length t) k)),
-                );
-                none_before = λ d l p.
-                    let r = w ds es s t d p.0 p.1 p.2 in
-                    let q = ahead_least 0 docid_limit ds s.rising i d (subst (λ n. i < n) (shown_length s) h) r.0 in
-                    omega arith;
-              };
-          none = λ f. false_not_true (sym f);
+          has = (
+            in-run,
+            subst (λ d. Memᴰ d ds) (sym x) (member_at ds 0 i (subst (λ n. i < n) (shown_length s) h)),
+            subst (λ d. Memᴰ d es) (sym (e ∙ y)) (member_at es 0 j (subst (λ n. j < n) (shown_length t) k)),
+          );
+          none_before = λ d l p.
+              let r = w ds es s t d p.0 p.1 p.2 in
+              let q = ahead_least 0 docid_limit ds s.rising i d (subst (λ n. i < n) (shown_length s) h) r.0 in
+              omega arith;
         }
 
 -- ---- the least of several
 
-module _ (p q : Shared) where
-  pub first_missing : p.found ≡ false → q ≡ earlier_of p q
-  first_missing s = simp s
-
-  pub second_missing : p.found ≡ true → q.found ≡ false → p ≡ earlier_of p q
-  second_missing s t = simp (s, t)
-
-  pub second_smaller : p.found ≡ true → q.found ≡ true → q.key < p.key → q ≡ earlier_of p q
-  second_smaller s t l = simp (s, t, lt-ltb q.key p.key l)
-
-  pub first_smaller : p.found ≡ true → q.found ≡ true → p.key ≤ q.key → p ≡ earlier_of p q
-  first_smaller s t l = simp (s, t, le-ltb q.key p.key l)
-
-module _ {P Q : ℕ → Type 0} where
+module _ (P Q : ℕ → Type 0) where
   -- the earlier of two findings is the least with one of two properties
-  earlier_finds : (p q : Shared) → Finds P p → Finds Q q → Finds (λ d. P d ⊎ Q d) (earlier_of p q)
-  earlier_finds p q f g =
-      pick_case (Finds (λ d. P d ⊎ Q d)) p.found _ q
-      (λ s.
-      pick_case (Finds (λ d. P d ⊎ Q d)) q.found _ p
-      (λ t. pick_case (Finds (λ d. P d ⊎ Q d)) (ltb q.key p.key) q p (λ l. second_first s t (ltb-true _ _ l)) (λ l. first_first s t (ltb-false _ _ l)))
-      (λ t. only_first s t))
-      (λ s. no_first s)
-    where
-      second_first : p.found ≡ true → q.found ≡ true → q.key < p.key → Finds (λ d. P d ⊎ Q d) q
-      second_first s t l =
-          record {
-            some = λ _. record { has = inr (g.some t).has; none_before = λ e m o. ⊎_elim (λ x. (f.some s).none_before e (omega arith) x) (λ x. (g.some t).none_before e m x) o };
-            none = λ n. false_not_true (sym n ∙ t);
-          }
+  earlier_finds : (p q : Option ℕ) → Finds P p → Finds Q q → Finds (λ d. P d ⊎ Q d) (earlier_of p q)
+  earlier_finds (Some p) (Some q) f g =
+      split q p
+      (λ l.
+      let e : q ≡ min p q = omega arith in
+      subst (Least (λ d. P d ⊎ Q d)) e
+      (record { has = inr g.has; none_before = λ d m o. ⊎_elim (λ x. f.none_before d (omega arith) x) (λ x. g.none_before d m x) o }))
+      (λ l.
+      let e : p ≡ min p q = omega arith in
+      subst (Least (λ d. P d ⊎ Q d)) e
+      (record { has = inl f.has; none_before = λ d m o. ⊎_elim (λ x. f.none_before d m x) (λ x. g.none_before d (omega arith) x) o }))
+  earlier_finds (Some p) None f g = record { has = inl f.has; none_before = λ e m o. ⊎_elim (λ x. f.none_before e m x) (λ x. g e x) o }
+  earlier_finds None (Some q) f g = record { has = inr g.has; none_before = λ e m o. ⊎_elim (λ x. f e x) (λ x. g.none_before e m x) o }
+  earlier_finds None None f g = λ d o. ⊎_elim (λ x. f d x) (λ x. g d x) o
 
-      first_first : p.found ≡ true → q.found ≡ true → p.key ≤ q.key → Finds (λ d. P d ⊎ Q d) p
-      first_first s t l =
-          record {
-            some = λ _. record { has = inl (f.some s).has; none_before = λ e m o. ⊎_elim (λ x. (f.some s).none_before e m x) (λ x. (g.some t).none_before e (omega arith) x) o };
-            none = λ n. false_not_true (sym n ∙ s);
-          }
-
-      only_first : p.found ≡ true → q.found ≡ false → Finds (λ d. P d ⊎ Q d) p
-      only_first s t =
-          record {
-            some = λ _. record { has = inl (f.some s).has; none_before = λ e m o. ⊎_elim (λ x. (f.some s).none_before e m x) (λ x. g.none t e x) o };
-            none = λ n. false_not_true (sym n ∙ s);
-          }
-
-      no_first : p.found ≡ false → Finds (λ d. P d ⊎ Q d) q
-      no_first s =
-          record {
-            some = λ t. record { has = inr (g.some t).has; none_before = λ e m o. ⊎_elim (λ x. f.none s e x) (λ x. (g.some t).none_before e m x) o };
-            none = λ t d o. ⊎_elim (λ x. f.none s d x) (λ x. g.none t d x) o;
-          }
-
-  finds_agree : ((d : ℕ) → P d ↔ Q d) → {r : Shared} → Finds P r → Finds Q r
-  finds_agree a f =
-      record {
-        some = λ t. record { has = (a _).0 (f.some t).has; none_before = λ e m q. (f.some t).none_before e m ((a e).1 q) };
-        none = λ t d q. f.none t d ((a d).1 q);
-      }
+  finds_agree : ((d : ℕ) → P d ↔ Q d) → (r : Option ℕ) → Finds P r → Finds Q r
+  finds_agree a (Some k) f = record { has = (a _).0 f.has; none_before = λ e m q. f.none_before e m ((a e).1 q) }
+  finds_agree a None f = λ d q. f d ((a d).1 q)
 
 -- the least that two of three lists share
-pub twice_finds : (first last : ℕ) (v : Verdicts) (p q s : Shared) → SharedIs first last v.passes v.fails p → SharedIs first last v.passes v.silents q
+pub twice_finds : (first last : ℕ) (v : Verdicts) (p q s : Option ℕ) → SharedIs first last v.passes v.fails p → SharedIs first last v.passes v.silents q
     → SharedIs first last v.fails v.silents s → TwiceIs first last v (earlier_of p (earlier_of q s))
 twice_finds first last v p q s f g h =
-    finds_agree
+    finds_agree _ _
     (λ d. (
       ⊎_elim (λ x. (x.0, inl (x.1, x.2))) (⊎_elim (λ x. (x.0, inr (inl (x.1, x.2)))) (λ x. (x.0, inr (inr (x.1, x.2))))),
       λ t. ⊎_elim (λ x. inl (t.0, x.0, x.1)) (⊎_elim (λ x. inr (inl (t.0, x.0, x.1))) (λ x. inr (inr (t.0, x.0, x.1)))) t.1,
     ))
-    (earlier_finds p (earlier_of q s) f (earlier_finds q s g h))
+    _
+    (earlier_finds _ _ p (earlier_of q s) f (earlier_finds _ _ q s g h))

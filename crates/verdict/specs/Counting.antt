@@ -1,5 +1,5 @@
 -- The parts of a sheet, as the code has them: lists that are lent as docids, their rows in the run, and the least row that two of them share.
-use Rattle.std.specs.Prelude.{ℕ, ◌+◌, ◌≤◌, ◌≡◌, true, false, ℤ, length, take, ltb}
+use Rattle.std.specs.Prelude.{ℕ, ◌+◌, ◌≤◌, ◌≡◌, ℤ, length, take, min, Option, Some, None}
 use mathlib.Core.List.{List, [], ◌∷◌, map, Memᴰ}
 use Rattle.common.specs.Pick.{pick}
 use Rattle.common.specs.Bytes.{within}
@@ -10,7 +10,6 @@ use Rattle.search.specs.declared.Answer.TheVariants as answer
 use Rattle.verdict.specs.Sheet.{Verdicts, Within, TwoVerdicts, Least, CountsAre, row_count}
 use Rattle.verdict.specs.declared.Sheet.{Sheet}
 use Rattle.verdict.specs.declared.Sheet.TheVariants as sheet
-use Rattle.verdict.specs.declared.Shared.{Shared}
 
 -- ---- lists
 
@@ -33,20 +32,22 @@ count_in first last (d ∷ ds) = pick (within first last d) 1 0 + count_in first
 -- ---- rows in two lists
 
 -- the least key with a property, if there is one
-pub record Finds (P : ℕ → Type 0) (r : Shared) : Type 0 where
-  pub some : r.found ≡ true → Least P r.key
-  pub none : r.found ≡ false → (d : ℕ) → P d → ⊥
+abbrev pub Finds : (ℕ → Type 0) → Option ℕ → Type 0
+Finds P (Some key) = Least P key
+Finds P None = (d : ℕ) → P d → ⊥
 
 -- the least docid of the run that two lists share
-abbrev pub SharedIs : ℕ → ℕ → List ℕ → List ℕ → Shared → Type 0
+abbrev pub SharedIs : ℕ → ℕ → List ℕ → List ℕ → Option ℕ → Type 0
 SharedIs first last ds es r = Finds (λ d. Within first last d × Memᴰ d ds × Memᴰ d es) r
 
--- the one with the smaller key, of those that were found
-abbrev pub earlier_of : Shared → Shared → Shared
-earlier_of p q = pick p.found (pick q.found (pick (ltb q.key p.key) q p) p) q
+-- the smaller key, of those that were found
+abbrev pub earlier_of : Option ℕ → Option ℕ → Option ℕ
+earlier_of (Some p) (Some q) = Some (min p q)
+earlier_of (Some p) None = Some p
+earlier_of None q = q
 
 -- the least docid of the run with two verdicts
-abbrev pub TwiceIs : ℕ → ℕ → Verdicts → Shared → Type 0
+abbrev pub TwiceIs : ℕ → ℕ → Verdicts → Option ℕ → Type 0
 TwiceIs first last v r = Finds (TwoVerdicts first last v) r
 
 -- ---- the sheet of three lists

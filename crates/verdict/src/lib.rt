@@ -5,7 +5,7 @@ ghost use Rattle.std.specs.Prelude.{◌≡◌, ◌↔◌, true, List, map, ℕ, 
 ghost use Rattle.common.specs.Bytes.{within};
 ghost use Rattle.common.specs.Rooms.{zeros};
 ghost use Rattle.doclist.specs.Docid.{key_of};
-ghost use Rattle.verdict.specs.Sheet.{Verdicts, RunRight, is_counted, Sheeted};
+ghost use Rattle.verdict.specs.Sheet.{Verdicts, RunRight, numbers_of, is_counted, Sheeted};
 ghost use Rattle.verdict.specs.Counting.{Shown, AllShown, count_in, SharedIs, earlier_of, TwiceIs, Judged, refusal_of, FoundIn, SheetOf};
 
 use doclist::keys;
@@ -14,7 +14,7 @@ use search::Answer;
 // The most rows of a run.
 const MAX_ROWS: u64 = 4096;
 
-// What a sheet answers.
+// What a sheet answers. An own enum: the numbers of the answers are said of its cases (document 01).
 #[derive(Clone, Copy)]
 pub enum Sheet {
     // How many rows of the run are in each list, and in none.
@@ -36,44 +36,45 @@ pub enum Sheet {
     Twice(i64),
 }
 
-// The least key of the run that two lists share, if they share one.
-#[derive(Drop)]
-struct Shared {
-    found: bool,
-    key: u64,
+impl Sheet {
+    // Its number: 0 to 4, or 7.
+    pub fn number(self) -> u32
+        ensures { result ≡ (numbers_of self).number }
+    {
+        match self {
+            Sheet::Counted { .. } => 0,
+            Sheet::Shape => 1,
+            Sheet::Query => 2,
+            Sheet::Leaf(_) => 3,
+            Sheet::Room(_) => 4,
+            Sheet::Twice(_) => 7,
+        }
+    }
 }
 
 // Whether a run, by the keys of its first and last docid, is one.
 fn is_run(first: u64, last: u64) -> bool
     ensures { (result ≡ true) ↔ RunRight first last }
 {
-    if last < first {
-        return false;
-    }
-    last - first < MAX_ROWS
+    first <= last && last - first < MAX_ROWS
 }
 
 // Whether a key is in the run.
 fn is_within(first: u64, last: u64, key: u64) -> bool
     ensures { result ≡ within first last key }
 {
-    if key < first {
-        return false;
-    }
-    key <= last
+    first <= key && key <= last
 }
 
 // How many docids of a list are in the run.
 fn count_in(list: &[i64], first: u64, last: u64) -> usize
     ensures { result ≡ count_in first last (map key_of list.now) }
 {
-    let mut n: usize = 0;
-    let mut i: usize = 0;
-    while i < list.len() {
-        if is_within(first, last, keys::key_of(list[i])) {
+    let mut n = 0;
+    for docid in list {
+        if is_within(first, last, keys::key_of(*docid)) {
             n += 1;
         }
-        i += 1;
     }
     n
 }
@@ -82,25 +83,17 @@ fn count_in(list: &[i64], first: u64, last: u64) -> usize
 fn is_hit(first: u64, last: u64, key: u64, other: u64) -> bool
     ensures { (result ≡ true) ↔ ((key ≡ other) × (within first last key ≡ true)) }
 {
-    if key != other {
-        return false;
-    }
-    is_within(first, last, key)
+    key == other && is_within(first, last, key)
 }
 
-// The least docid of the run that two rising lists share.
-fn least_shared(a: &[i64], b: &[i64], first: u64, last: u64) -> Shared
+// The least key of the run that two rising lists share.
+fn least_shared(a: &[i64], b: &[i64], first: u64, last: u64) -> Option<u64>
     ensures { (ds es : List ℕ) → Shown a.now ds → Shown b.now es → SharedIs first last ds es result }
 {
-    let mut i: usize = 0;
-    let mut j: usize = 0;
-    while i < a.len() {
-        if b.len() <= j {
-            return Shared {
-                found: false,
-                key: 0,
-            };
-        }
+    let mut i = 0;
+    let mut j = 0;
+    // Each list goes on by itself: no loop over either.
+    while i < a.len() && j < b.len() {
         let key = keys::key_of(a[i]);
         let other = keys::key_of(b[j]);
         if other < key {
@@ -108,34 +101,25 @@ fn least_shared(a: &[i64], b: &[i64], first: u64, last: u64) -> Shared
             continue;
         }
         if is_hit(first, last, key, other) {
-            return Shared { found: true, key };
+            return Some(key);
         }
         i += 1;
     }
-    Shared {
-        found: false,
-        key: 0,
-    }
+    None
 }
 
-// Of two, the one with the smaller key, where they were found.
-fn earlier(p: Shared, q: Shared) -> Shared
+// The smaller of two keys, where they were found.
+fn earlier(p: Option<u64>, q: Option<u64>) -> Option<u64>
     ensures { result ≡ earlier_of p q }
 {
-    if !p.found {
-        return q;
+    match (p, q) {
+        (Some(p), Some(q)) => Some(p.min(q)),
+        _ => p.or(q),
     }
-    if !q.found {
-        return p;
-    }
-    if q.key < p.key {
-        return q;
-    }
-    p
 }
 
-// The least docid of the run that is in two of three lists.
-fn twice(passes: &[i64], fails: &[i64], silents: &[i64], first: u64, last: u64) -> Shared
+// The least key of the run that is in two of three lists.
+fn twice(passes: &[i64], fails: &[i64], silents: &[i64], first: u64, last: u64) -> Option<u64>
     ensures { (v : Verdicts) → AllShown passes.now fails.now silents.now v → TwiceIs first last v result }
 {
     let a = least_shared(passes, fails, first, last);
@@ -157,9 +141,8 @@ fn judge(passes: &[i64], fails: &[i64], silents: &[i64], first: u64, last: u64) 
     requires { RunRight first last × ((v : Verdicts) × AllShown passes.now fails.now silents.now v) }
     ensures { (v : Verdicts) → AllShown passes.now fails.now silents.now v → Judged first last v result }
 {
-    let two = twice(passes, fails, silents, first, last);
-    if two.found {
-        return Sheet::Twice(keys::docid_of(two.key));
+    if let Some(two) = twice(passes, fails, silents, first, last) {
+        return Sheet::Twice(keys::docid_of(two));
     }
     let passed = count_in(passes, first, last);
     let failed = count_in(fails, first, last);
@@ -179,8 +162,7 @@ fn refusal(answer: Answer) -> Sheet
     ensures { result ≡ refusal_of answer }
 {
     match answer {
-        Answer::Found(_) => Sheet::Shape,
-        Answer::Shape => Sheet::Shape,
+        Answer::Found(_) | Answer::Shape => Sheet::Shape,
         Answer::Query => Sheet::Query,
         Answer::Leaf(i) => Sheet::Leaf(i),
         Answer::Room(n) => Sheet::Room(n),
@@ -217,9 +199,9 @@ fn sheet_of(
 fn refused(passes: &mut [i64], fails: &mut [i64], silents: &mut [i64], sheet: Sheet) -> Sheet
     ensures { (result ≡ sheet) × (passes.new ≡ zeros (length passes.old)) × (fails.new ≡ zeros (length fails.old)) × (silents.new ≡ zeros (length silents.old)) }
 {
-    common::clear(passes);
-    common::clear(fails);
-    common::clear(silents);
+    passes.fill(0);
+    fails.fill(0);
+    silents.fill(0);
     sheet
 }
 
@@ -227,19 +209,7 @@ fn refused(passes: &mut [i64], fails: &mut [i64], silents: &mut [i64], sheet: Sh
 fn is_counted(sheet: Sheet) -> bool
     ensures { result ≡ is_counted sheet }
 {
-    match sheet {
-        Sheet::Counted {
-            passed: _,
-            failed: _,
-            silent: _,
-            none: _,
-        } => true,
-        Sheet::Shape => false,
-        Sheet::Query => false,
-        Sheet::Leaf(_) => false,
-        Sheet::Room(_) => false,
-        Sheet::Twice(_) => false,
-    }
+    matches!(sheet, Sheet::Counted { .. })
 }
 
 // Counts the rows of a run from the first docid to the last: those that each of three queries lists, and those that none does. The lists

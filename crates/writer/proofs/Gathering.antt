@@ -1,6 +1,5 @@
 -- How a document's rows are gathered: word by word in a column, and column by column.
 use Prim.Native.Nat.{ℕ, zero, suc, ◌+◌, ◌-◌, ◌≤◌, ◌<◌}
-use native.Mathlib.Nat.{not-suc-le-zero}
 use native.Mathlib.Numerals.{add-one}
 use native.Mathlib.Omega.{arith}
 use mathlib.Core.Path.{◌≡◌, refl, sym, ap, subst, ◌∙◌}
@@ -8,7 +7,7 @@ use mathlib.Core.Logic.{◌⊎◌, inl, inr, ⊎_elim}
 use mathlib.Core.Bool.{true, false}
 use mathlib.Core.List.Memᴰ
 use mathlib.Core.List.{List, [], ◌∷◌, ◌++◌, map, Memᴰ}
-use lib.ListN.{length, get_or, take, drop, length-append, drop_of_length-le}
+use lib.ListN.{length, get_or, drop}
 use lib.Seq.{drop-cons}
 use lib.Dec.{ltb}
 use denote.Enum.Declared.{tag_of}
@@ -27,27 +26,13 @@ use Rattle.tokenizer.proofs.Folds.{word_length}
 use Rattle.offsets.specs.Cut.{Cuts, cut}
 use Rattle.offsets.specs.Cut as offsets
 use Rattle.offsets.proofs.Cuts as cuts
+use Rattle.writer.specs.declared.rows.Row.{Row}
 use Rattle.writer.specs.Answers.{has_overlong}
-use Rattle.writer.specs.Rows.{row_of, row_start, end_of, row_column, row_position, row_word, RowInside, AllInside, place_rows, column_rows, rows_from, document_rows, not_before, insert_row, insert_rows, Addable, AddedTo, Gatherable, Gathered}
-
--- ---- a row's parts
-
-module _ (a e c p : ℕ) (ha : a < 65536) (he : e < 65536) (hc : c < 65536) (hp : p < 65536) where
-  pub row_start_lem : row_start (row_of a e c p) ≡ a
-  row_start_lem = omega arith
-
-  pub row_end : end_of (row_of a e c p) ≡ e
-  row_end = omega arith
-
-  pub row_column_lem : row_column (row_of a e c p) ≡ c
-  row_column_lem = omega arith
-
-  pub row_position_lem : row_position (row_of a e c p) ≡ p
-  row_position_lem = omega arith
+use Rattle.writer.specs.Rows.{no_row, row_of, row_word, RowInside, AllInside, place_rows, column_rows, rows_from, document_rows, not_before, insert_row, insert_rows, Addable, AddedTo, Gatherable}
 
 -- ---- rows inside the texts
 
-pub insert_from : (folded : List ℕ) (row x : ℕ) (rows : List ℕ) → Memᴰ x (insert_row folded row rows) → (x ≡ row) ⊎ Memᴰ x rows
+pub insert_from : (folded : List ℕ) (row x : Row) (rows : List Row) → Memᴰ x (insert_row folded row rows) → (x ≡ row) ⊎ Memᴰ x rows
 insert_from folded row x [] m = Memᴰ.cases_cons m
 insert_from folded row x (r ∷ rows) m =
     bool_case (not_before folded (row_word folded row) r)
@@ -57,14 +42,14 @@ insert_from folded row x (r ∷ rows) m =
     (Memᴰ.cases_cons (subst (λ b. Memᴰ x (pick b (r ∷ insert_row folded row rows) (row ∷ r ∷ rows))) t m)))
     (λ t. Memᴰ.cases_cons (subst (λ b. Memᴰ x (pick b (r ∷ insert_row folded row rows) (row ∷ r ∷ rows))) t m))
 
-pub inside_insert : (n : ℕ) (folded : List ℕ) (row : ℕ) (rows : List ℕ) → AllInside n rows → RowInside n row → AllInside n (insert_row folded row rows)
+pub inside_insert : (n : ℕ) (folded : List ℕ) (row : Row) (rows : List Row) → AllInside n rows → RowInside n row → AllInside n (insert_row folded row rows)
 inside_insert n folded row rows f h i k =
     ⊎_elim
-    (λ (e : get_or (insert_row folded row rows) i 0 ≡ row). subst (RowInside n) (sym e) h)
-    (λ (m : Memᴰ (get_or (insert_row folded row rows) i 0) rows).
-    let r = at_member rows 0 (get_or (insert_row folded row rows) i 0) m in
+    (λ (e : get_or (insert_row folded row rows) i no_row ≡ row). subst (RowInside n) (sym e) h)
+    (λ (m : Memᴰ (get_or (insert_row folded row rows) i no_row) rows).
+    let r = at_member rows no_row (get_or (insert_row folded row rows) i no_row) m in
     subst (RowInside n) r.2 (f r.0 r.1))
-    (insert_from folded row (get_or (insert_row folded row rows) i 0) rows (member_at (insert_row folded row rows) 0 i k))
+    (insert_from folded row (get_or (insert_row folded row rows) i no_row) rows (member_at (insert_row folded row rows) no_row i k))
 
 -- ---- words over 64 bytes
 
@@ -104,36 +89,39 @@ places_most (suc k) s at =
 pub words_most : (s : List ℕ) → length (places s) ≤ length s
 words_most s = omega (arith, places_most (length s - 0) s 0)
 
+-- ---- how many rows there are
+
+pub insert_length : (folded : List ℕ) (row : Row) (rows : List Row) → length (insert_row folded row rows) ≡ suc (length rows)
+insert_length folded row [] = refl
+insert_length folded row (r ∷ rows) =
+    bool_case (not_before folded (row_word folded row) r)
+    (λ t. rw t (ap suc (insert_length folded row rows)))
+    (λ t. rw t refl)
+
+inserts_length : (folded : List ℕ) (rows xs : List Row) → length (insert_rows folded rows xs) ≡ length rows + length xs
+inserts_length folded rows [] = omega arith
+inserts_length folded rows (x ∷ xs) = omega (arith, inserts_length folded (insert_row folded x rows) xs, insert_length folded x rows)
+
+place_rows_length : (base column position : ℕ) (ps : List Place) → length (place_rows base column position ps) ≡ length ps
+place_rows_length base column position [] = refl
+place_rows_length base column position (p ∷ ps) = ap suc (place_rows_length base column (suc position) ps)
+
 -- ---- a column
 
--- the words before the place `at`, of which there are `position`, are added to the first `n` rows of `before`
-pub record Adding (text : List ℕ) (base column : ℕ) (folded before : List ℕ) (n : ℕ) (rows : List ℕ) (at position : ℕ) : Type 0 where
+-- the words before the place `at`, of which there are `position`, are added to the rows `before`
+pub record Adding (text : List ℕ) (base column : ℕ) (folded : List ℕ) (before rows : List Row) (at position : ℕ) : Type 0 where
   pub passed : position ≤ at
-  pub same : length rows ≡ length before
+  pub all : length rows ≡ length before + position
   pub short : ShortFrom text at
-  pub inside : AllInside (length folded) (take (n + position) rows)
-  pub sorted : insert_rows folded (take (n + position) rows) (place_rows base column position (places_from text at))
-      ≡ insert_rows folded (take n before) (column_rows base column text)
-  pub count : position + length (places_from text at) ≡ length (places text)
+  pub inside : AllInside (length folded) rows
+  pub sorted : insert_rows folded rows (place_rows base column position (places_from text at))
+      ≡ insert_rows folded before (column_rows base column text)
 
-module _ (text : List ℕ) (base column : ℕ) (folded before : List ℕ) (n : ℕ) (h : Addable text base column folded before n) where
-  pub adding_none : Adding text base column folded before n before 0 0
-  adding_none =
-      let z : n + 0 ≡ n = omega arith in
-      record {
-        passed = omega arith;
-        same = refl;
-        short = h.short;
-        inside = subst (λ k. AllInside (length folded) (take k before)) (sym z) h.inside;
-        sorted = ap (λ k. insert_rows folded (take k before) (column_rows base column text)) z;
-        count = omega arith;
-      }
-
-  module _ (rows : List ℕ) (at position : ℕ) (m : Adding text base column folded before n rows at position) where
-    pub adding_last : places_from text at ≡ [] → AddedTo text base column folded before n rows (n + position)
+module _ (text : List ℕ) (base column : ℕ) (folded : List ℕ) (before : List Row) (h : Addable text base column folded before) where
+  module _ (rows : List Row) (at position : ℕ) (m : Adding text base column folded before rows at position) where
+    pub adding_last : places_from text at ≡ [] → AddedTo text base column folded before rows
     adding_last q = record {
-      all = omega (arith, m.count, ap length q);
-      sorted = sym (ap (λ ps. insert_rows folded (take (n + position) rows) (place_rows base column position ps)) q) ∙ m.sorted;
+      sorted = sym (ap (λ ps. insert_rows folded rows (place_rows base column position ps)) q) ∙ m.sorted;
       inside = m.inside;
     }
 
@@ -142,8 +130,8 @@ module _ (text : List ℕ) (base column : ℕ) (folded before : List ℕ) (n : �
       bounds = found_bounds text at a e q
 
       -- what the row and its insertion ask
-      pub adding_fits : (base + e ≤ 4096) × (n + position < length rows) × (position < 4096)
-      adding_fits = omega (arith, bounds.0, bounds.1, bounds.2, h.stands, h.bytes, h.room, m.passed, m.same)
+      pub adding_fits : (base + e ≤ 4096) × (length rows < 4096) × (position < 4096)
+      adding_fits = omega (arith, bounds.0, bounds.1, bounds.2, h.stands, h.bytes, h.room, m.passed, m.all)
 
       pub adding_inside : RowInside (length folded) (row_of (base + a) (base + e) column position)
       adding_inside =
@@ -151,80 +139,45 @@ module _ (text : List ℕ) (base column : ℕ) (folded before : List ℕ) (n : �
           let c = h.columns in
           let k = bounds in
           record {
-            begins = omega (
-              arith,
-              row_start_lem (base + a) (base + e) column position (omega arith) (omega arith) (omega arith) (omega arith),
-              row_end (base + a) (base + e) column position (omega arith) (omega arith) (omega arith) (omega arith),
-            );
-            ends = omega (arith, h.stands, row_end (base + a) (base + e) column position (omega arith) (omega arith) (omega arith) (omega arith));
+            begins = omega arith;
+            ends = omega (arith, h.stands);
           }
 
-      pub adding_more : (row : ℕ) (after : List ℕ) → row ≡ row_of (base + a) (base + e) column position → length after ≡ length rows
-          → take (n + position + 1) after ≡ insert_row folded row (take (n + position) rows)
-          → Adding text base column folded before n after e (position + 1)
-      adding_more row after r s t =
+      pub adding_more : (row : Row) (after : List Row) → row ≡ row_of (base + a) (base + e) column position → after ≡ insert_row folded row rows
+          → Adding text base column folded before after e (position + 1)
+      adding_more row after r u =
           let k = bounds in
           let first = found_first text at a e q in
-          let z : n + position + 1 ≡ n + (position + 1) = omega arith in
-          let u : take (n + (position + 1)) after ≡ insert_row folded row (take (n + position) rows) = subst (λ j. take j after ≡ insert_row folded row (take (n + position) rows)) z t in
           record {
             passed = omega (arith, m.passed);
-            same = s ∙ m.same;
+            all = omega (arith, m.all, ap length u, insert_length folded row rows);
             short = short_next text at a e first m.short;
             inside = subst (AllInside (length folded)) (sym u)
-                (inside_insert (length folded) folded row (take (n + position) rows) m.inside (subst (RowInside (length folded)) (sym r) adding_inside));
+                (inside_insert (length folded) folded row rows m.inside (subst (RowInside (length folded)) (sym r) adding_inside));
             sorted =
                 ap (λ l. insert_rows folded l (place_rows base column (position + 1) (places_from text e))) u
-                ∙ ap (λ j. insert_rows folded (insert_row folded row (take (n + position) rows)) (place_rows base column j (places_from text e))) (add-one position)
-                ∙ ap (λ x. insert_rows folded (insert_row folded x (take (n + position) rows)) (place_rows base column (suc position) (places_from text e))) r
-                ∙ sym (ap (λ ps. insert_rows folded (take (n + position) rows) (place_rows base column position ps)) first)
+                ∙ ap (λ j. insert_rows folded (insert_row folded row rows) (place_rows base column j (places_from text e))) (add-one position)
+                ∙ ap (λ x. insert_rows folded (insert_row folded x rows) (place_rows base column (suc position) (places_from text e))) r
+                ∙ sym (ap (λ ps. insert_rows folded rows (place_rows base column position ps)) first)
                 ∙ m.sorted;
-            count = omega (arith, m.count, ap length first);
           }
 
 -- ---- all columns
 
-pub insert_append : (folded rows xs ys : List ℕ) → insert_rows folded rows (xs ++ ys) ≡ insert_rows folded (insert_rows folded rows xs) ys
+pub insert_append : (folded : List ℕ) (rows xs ys : List Row) → insert_rows folded rows (xs ++ ys) ≡ insert_rows folded (insert_rows folded rows xs) ys
 insert_append folded rows [] ys = refl
 insert_append folded rows (x ∷ xs) ys = insert_append folded (insert_row folded x rows) xs ys
 
-pub place_rows_length : (base column position : ℕ) (ps : List Place) → length (place_rows base column position ps) ≡ length ps
-place_rows_length base column position [] = refl
-place_rows_length base column position (p ∷ ps) = ap suc (place_rows_length base column (suc position) ps)
-
--- the columns before number `i`, whose texts end at `base`, are gathered: `n` rows
-pub record Gathering (s es folded before rows : List ℕ) (n base i : ℕ) : Type 0 where
+-- the columns before number `i`, whose texts end at `base`, are gathered
+pub record Gathering (s es folded : List ℕ) (rows : List Row) (base i : ℕ) : Type 0 where
   pub starts : base ≡ offsets.start_of es i
   pub ends : base ≤ length s
-  pub passed : n ≤ base
-  pub same : length rows ≡ length before
-  pub inside : AllInside (length folded) (take n rows)
-  pub sorted : insert_rows folded (take n rows) (rows_from i base s (drop i es)) ≡ insert_rows folded [] (document_rows s es)
-  pub count : n + length (rows_from i base s (drop i es)) ≡ length (document_rows s es)
+  pub passed : length rows ≤ base
+  pub inside : AllInside (length folded) rows
+  pub sorted : insert_rows folded rows (rows_from i base s (drop i es)) ≡ insert_rows folded [] (document_rows s es)
 
-module _ (s es folded before : List ℕ) (h : Gatherable s es folded before) where
-  pub gathering_none : Gathering s es folded before before 0 0 0
-  gathering_none = record {
-    starts = refl;
-    ends = omega arith;
-    passed = omega arith;
-    same = refl;
-    inside = λ i k. absurd (not-suc-le-zero k);
-    sorted = refl;
-    count = omega arith;
-  }
-
-  module _ (rows : List ℕ) (n base i : ℕ) (g : Gathering s es folded before rows n base i) where
-    pub gathering_all : length es ≤ i → Gathered s es folded rows n
-    gathering_all k =
-        let d = ap (rows_from i base s) (drop_of_length-le es k) in
-        record {
-          all = omega (arith, g.count, ap length d);
-          few = omega (arith, g.passed, g.ends);
-          sorted = sym (ap (insert_rows folded (take n rows)) d) ∙ g.sorted;
-          inside = g.inside;
-        }
-
+module _ (s es folded : List ℕ) (h : Gatherable s es folded) where
+  module _ (rows : List Row) (base i : ℕ) (g : Gathering s es folded rows base i) where
     module _ (k : i < length es) (text : List ℕ) (t : text ≡ get_or (cut s es) i []) where
       text_length : base + length text ≡ get_or es i 0
       text_length =
@@ -236,13 +189,13 @@ module _ (s es folded before : List ℕ) (h : Gatherable s es folded before) whe
       text_ends : get_or es i 0 ≤ length s
       text_ends = cuts.cut_end s es h.shape i k
 
-      pub gathering_adds : Addable text base i folded rows n
+      pub gathering_adds : Addable text base i folded rows
       gathering_adds = record {
         short = subst (λ x. has_overlong (words_of x) ≡ false) (sym t) (h.short i k);
         stands = omega (arith, text_length, text_ends, h.stands);
         bytes = h.bytes;
         columns = omega (arith, h.columns);
-        room = omega (arith, text_length, text_ends, h.room, g.passed, g.same);
+        room = omega (arith, text_length, text_ends, h.stands, h.bytes, g.passed);
         inside = g.inside;
       }
 
@@ -251,30 +204,19 @@ module _ (s es folded before : List ℕ) (h : Gatherable s es folded before) whe
           ap (rows_from i base s) (drop-cons es i 0 k)
           ∙ ap (λ x. column_rows base i x ++ rows_from (suc i) (get_or es i 0) s (drop (suc i) es)) (sym text_part)
 
-      pub gathering_more : (after : List ℕ) (count : ℕ) → AddedTo text base i folded rows n after count → length after ≡ length rows
-          → Gathering s es folded before after count (get_or es i 0) (i + 1)
-      gathering_more after count a l =
+      pub gathering_more : (after : List Row) → AddedTo text base i folded rows after → Gathering s es folded after (get_or es i 0) (i + 1)
+      gathering_more after a =
           let e : rows_from (i + 1) (get_or es i 0) s (drop (i + 1) es) ≡ rows_from (suc i) (get_or es i 0) s (drop (suc i) es) =
           ap (λ j. rows_from j (get_or es i 0) s (drop j es)) (add-one i) in
           record {
             starts = rw add-one refl;
             ends = text_ends;
-            passed = omega (arith, a.all, words_most text, text_length, g.passed);
-            same = l ∙ g.same;
+            passed = omega (arith, ap length a.sorted, inserts_length folded rows (column_rows base i text), place_rows_length base i 0 (places text), words_most text, text_length, g.passed);
             inside = a.inside;
             sorted =
                 ap (λ x. insert_rows folded x (rows_from (i + 1) (get_or es i 0) s (drop (i + 1) es))) a.sorted
-                ∙ ap (insert_rows folded (insert_rows folded (take n rows) (column_rows base i text))) e
-                ∙ sym (insert_append folded (take n rows) (column_rows base i text) (rows_from (suc i) (get_or es i 0) s (drop (suc i) es)))
-                ∙ sym (ap (insert_rows folded (take n rows)) rows_step)
+                ∙ ap (insert_rows folded (insert_rows folded rows (column_rows base i text))) e
+                ∙ sym (insert_append folded rows (column_rows base i text) (rows_from (suc i) (get_or es i 0) s (drop (suc i) es)))
+                ∙ sym (ap (insert_rows folded rows) rows_step)
                 ∙ g.sorted;
-            count = omega (
-              arith,
-              a.all,
-              g.count,
-              ap length e,
-              ap length rows_step,
-              length-append (column_rows base i text) (rows_from (suc i) (get_or es i 0) s (drop (suc i) es)),
-              place_rows_length base i 0 (places text),
-            );
           }

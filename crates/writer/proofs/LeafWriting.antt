@@ -5,7 +5,7 @@ use native.Mathlib.Omega.{arith}
 use mathlib.Core.Path.{◌≡◌, sym, ap, subst, ◌∙◌}
 use mathlib.Core.Bool.{false}
 use mathlib.Core.List.{List, [], ◌∷◌, ◌++◌, map}
-use lib.ListN.{length, get_or, take, replicate, length-take, length-map, length-replicate}
+use lib.ListN.{length, get_or, replicate, length-map, length-replicate}
 use borrow.Author.Tests.{le-leb, lt-leb}
 use Rattle.common.specs.Pick.{pick}
 use Rattle.common.specs.Bytes.{over}
@@ -16,7 +16,8 @@ use Rattle.offsets.specs.Cut.{cut}
 use Rattle.document.specs.Document.{document_leaf}
 use Rattle.writer.specs.declared.Answer.TheVariants.{Written, Room}
 use Rattle.writer.specs.Answers.{has_overlong, first_overlong, Writing, fitted_answer, held}
-use Rattle.writer.specs.Rows.{document_rows, insert_rows, Gatherable, Gathered}
+use Rattle.writer.specs.declared.rows.Row.{Row}
+use Rattle.writer.specs.Rows.{no_row, document_rows, insert_rows, Gatherable, Gathered}
 use Rattle.writer.specs.Stored.{Grouped, terms_of, Table}
 use Rattle.writer.proofs.Sorting.{sorted_grouped}
 use Rattle.writer.proofs.LeafLaw.{document_sorted, stored_leaf}
@@ -37,30 +38,26 @@ module _ (s es : List ℕ) (w : Writing s es) (folded room : List ℕ) (e : fold
   folded_long : length folded ≡ 4096
   folded_long = ap length e ∙ over_length (map fold s) room (omega (arith, length-map s fold, w.size)) ∙ l
 
-  pub gatherable : (rows : List ℕ) → length rows ≡ 4096 → Gatherable s es folded rows
-  gatherable rows k = record {
+  pub gatherable : Gatherable s es folded
+  gatherable = record {
     shape = w.ends;
     short = λ c h. short_before (cut s es) c (omega (arith, w.short));
     stands = omega (arith, folded_long, w.size);
     bytes = omega (arith, folded_long);
     columns = w.few;
-    room = omega (arith, w.size);
   }
 
-  module _ (rows : List ℕ) (n : ℕ) (g : Gathered s es folded rows n) where
-    pub rows_within : n ≤ 4096
-    rows_within = omega (arith, g.few, w.size)
-
-    pub rows_table : Table folded (take n rows)
+  module _ (rows : List Row) (g : Gathered s es folded rows) where
+    pub rows_table : Table folded rows
     rows_table = record {
       short = omega (arith, folded_long);
-      few = simp length-take (omega (arith, rows_within));
+      few = omega (arith, g.few, w.size);
       inside = g.inside;
-      grouped = subst (Grouped folded 0) (sym g.sorted)
+      grouped = subst (Grouped folded no_row) (sym g.sorted)
           (sorted_grouped folded (insert_rows folded [] (document_rows s es)) (document_sorted s es folded (record { room = room; is = e }) w.size w.few w.ends));
     }
 
-    pub rows_leaf : (docid : ℕ) → terms_of folded docid (take n rows) ≡ document_leaf docid (cut s es)
+    pub rows_leaf : (docid : ℕ) → terms_of folded docid rows ≡ document_leaf docid (cut s es)
     rows_leaf docid = ap (terms_of folded docid) g.sorted ∙ stored_leaf s es folded (record { room = room; is = e }) w.size w.few w.ends docid
 
 -- ---- the answers, where the leaf needs `need` bytes
@@ -74,5 +71,5 @@ module _ (leaf : List ℕ) (need size : ℕ) (k : need ≡ length leaf) (room : 
       (rw (le-leb (length leaf) size (omega arith)) (ap Written k), e ∙ ap (over leaf) z ∙ zeros_over leaf size ∙ ap (λ n. leaf ++ replicate (size - n) 0) (sym k))
 
 -- the local arrays, as they begin
-pub array_long : length {A = ℕ} (replicate 4096 0) ≡ 4096
-array_long = length-replicate {A = ℕ} 4096 0
+pub array_long : {A : Type 0} (a : A) → length (replicate 4096 a) ≡ 4096
+array_long a = length-replicate 4096 a

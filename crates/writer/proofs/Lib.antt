@@ -1,4 +1,5 @@
 -- The laws of this crate, in the order in which they build on each other.
+pub mod RowRuns
 pub mod Inserting
 pub mod Gathering
 pub mod Lists

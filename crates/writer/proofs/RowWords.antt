@@ -16,8 +16,9 @@ use Rattle.tokenizer.proofs.Runs.{place_is_run}
 use Rattle.offsets.specs.Cut.{ends_from, cut_from}
 use Rattle.offsets.proofs.Cuts.{ends_step}
 use Rattle.document.specs.Document.{all_words}
-use Rattle.writer.specs.Rows.{row_of, row_column, row_position, row_key, row_word, place_rows, column_rows, rows_from}
-use Rattle.writer.proofs.Gathering.{row_start_lem, row_end, row_column_lem, row_position_lem, words_most}
+use Rattle.writer.specs.declared.rows.Row.{Row}
+use Rattle.writer.specs.Rows.{row_of, row_key, row_word, place_rows, column_rows, rows_from}
+use Rattle.writer.proofs.Gathering.{words_most}
 
 -- ---- the word of a row
 
@@ -62,13 +63,10 @@ module _ (s folded : List ℕ) (f : FoldedText s folded) (base e a b : ℕ) (le 
 -- ---- a row
 
 -- the row is that of word `w` at column `c` and position `p`
-pub record RowWordIs (folded : List ℕ) (row : ℕ) (w : List ℕ) (c p : ℕ) : Type 0 where
+pub record RowWordIs (folded : List ℕ) (row : Row) (w : List ℕ) (c p : ℕ) : Type 0 where
   pub word : row_word folded row ≡ w
-  pub column : row_column row ≡ c
-  pub position : row_position row ≡ p
-
-pub key_parts : (row : ℕ) → row_key row ≡ row_column row * 65536 + row_position row
-key_parts row = omega arith
+  pub column : row.column ≡ c
+  pub position : row.position ≡ p
 
 module _ (s folded : List ℕ) (f : FoldedText s folded) (small : length s ≤ 4096) (base e : ℕ) (le : base ≤ e) (he : e ≤ length s) (c : ℕ) (hc : c < 16) where
   -- a place that lies in the column's text
@@ -78,17 +76,7 @@ module _ (s folded : List ℕ) (f : FoldedText s folded) (small : length s ≤ 4
 
   pub row_is : (p : ℕ) (q : Place) → p < 65536 → In q → RowWordIs folded (row_of (base + q.start) (base + q.end) c p) (word_at (part s base e) q) c p
   row_is p q hp h =
-      let l = part_length s base e he in
-      let a : base + q.start < 65536 = omega (arith, h.starts, h.ends) in
-      let b : base + q.end < 65536 = omega (arith, h.ends) in
-      let k : c < 65536 = omega arith in
-      record {
-        word =
-            ap₂ (λ x y. part folded x y) (row_start_lem (base + q.start) (base + q.end) c p a b k hp) (row_end (base + q.start) (base + q.end) c p a b k hp)
-            ∙ found_word s folded f base e q.start q.end le he h.starts h.ends;
-        column = row_column_lem (base + q.start) (base + q.end) c p a b k hp;
-        position = row_position_lem (base + q.start) (base + q.end) c p a b k hp;
-      }
+      record { word = found_word s folded f base e q.start q.end le he h.starts h.ends; column = refl; position = refl }
 
   pub places_in : Each In (places (part s base e))
   places_in =
@@ -106,7 +94,7 @@ module _ (s folded : List ℕ) (f : FoldedText s folded) (small : length s ≤ 4
   place_least p [] h i = tt
   place_least p (q ∷ qs) h i =
       let r = row_is p q (omega arith) i.0 in (
-        omega (arith, r.column, r.position, key_parts (row_of (base + q.start) (base + q.end) c p)),
+        omega (arith, r.column, r.position),
         member_each (λ r. (c * 65536 + p ≤ row_key r) × (row_key r < suc c * 65536)) (place_rows base c (suc p) qs)
             (λ x m. let k = each_member (λ r. (c * 65536 + suc p ≤ row_key r) × (row_key r < suc c * 65536)) (place_rows base c (suc p) qs) x (place_least (suc p) qs (omega arith) i.1) m in omega (arith, k)),
       )
@@ -117,7 +105,7 @@ module _ (s folded : List ℕ) (f : FoldedText s folded) (small : length s ≤ 4
       let r = row_is p q (omega arith) i.0 in (
         member_each (λ y. row_key (row_of (base + q.start) (base + q.end) c p) < row_key y) (place_rows base c (suc p) qs)
             (λ x m. let k = each_member (λ r. (c * 65536 + suc p ≤ row_key r) × (row_key r < suc c * 65536)) (place_rows base c (suc p) qs) x (place_least (suc p) qs (omega arith) i.1) m in
-            omega (arith, k, r.column, r.position, key_parts (row_of (base + q.start) (base + q.end) c p))),
+            omega (arith, k, r.column, r.position)),
         place_rises (suc p) qs (omega arith) i.1,
       )
 

@@ -8,8 +8,8 @@ use lib.IntN.{ℤ}
 use mathlib.Core.Path.{◌≡◌, refl, sym, ap, subst, ◌∙◌}
 use mathlib.Core.Logic.{◌↔◌}
 use mathlib.Core.List.{List, ◌++◌}
-use lib.ListN.{length, take, drop, replicate}
-use lib.Seq.{take_at, drop_at}
+use lib.ListN.{length, take, replicate}
+use lib.Seq.{take_at}
 use Rattle.offsets.specs.Cut.{cut}
 use Rattle.offsets.proofs.Cuts.{length_cut, cut_joined}
 use Rattle.doclist.specs.Docid.{key_of, IsDocid}
@@ -45,9 +45,6 @@ module _ (docid : ℤ) (s es : List ℕ) (room n : ℕ) (w : answer_of docid s e
 
   pub written_leaf : take n (room_of docid s es room) ≡ document_leaf (key_of docid) (cut s es)
   written_leaf = ap (take n) written_room ∙ take_at (document_leaf (key_of docid) (cut s es)) (replicate (room - n) 0) n (sym rules.2)
-
-  pub written_zeros : drop n (room_of docid s es room) ≡ replicate (room - n) 0
-  written_zeros = ap (drop n) written_room ∙ drop_at (document_leaf (key_of docid) (cut s es)) (replicate (room - n) 0) n (sym rules.2)
 
   -- 0 bytes exactly where there is no word
   pub written_none : (n ≡ 0) ↔ ((v : List ℕ) (c p : ℕ) → HasWordAt (cut s es) v c p → ⊥)

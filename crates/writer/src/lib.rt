@@ -10,14 +10,15 @@ ghost use Rattle.std.specs.Prelude.{◌≡◌, ◌↔◌, length, replicate};
 ghost use Rattle.tokenizer.specs.Word.{words_of};
 ghost use Rattle.offsets.specs.Cut.{cut};
 ghost use Rattle.document.specs.Document.{document_leaf};
-ghost use Rattle.writer.specs.Answers.{is_document, has_overlong, first_overlong, Writing, fitted_answer, WriteIs, answer_of, held, room_of};
+ghost use Rattle.writer.specs.Answers.{numbers_of, is_document, has_overlong, first_overlong, Writing, fitted_answer, WriteIs, answer_of, held, room_of};
 
+use crate::rows::Rows;
 use tokenizer::Word;
 
 // A document has at most 4,096 bytes over all columns; a word takes at least one, so there are no more words.
 pub const MAX_DOCUMENT: usize = 4096;
 
-// What the writer answers.
+// What the writer answers. An own enum: the numbers of the answers are said of its cases (document 01).
 #[derive(Clone, Copy)]
 pub enum Answer {
     // The leaf stands in the room: how many bytes it took.
@@ -30,20 +31,38 @@ pub enum Answer {
     Room(usize),
 }
 
+impl Answer {
+    // Its number: 0, 1, 4 or 5.
+    pub fn number(self) -> u32
+        ensures { result ≡ (numbers_of self).number }
+    {
+        match self {
+            Answer::Written(_) => 0,
+            Answer::Shape => 1,
+            Answer::Room(_) => 4,
+            Answer::Overlong(_) => 5,
+        }
+    }
+
+    // The number beside it.
+    pub fn second(self) -> usize
+        ensures { result ≡ (numbers_of self).second }
+    {
+        match self {
+            Answer::Shape => 0,
+            Answer::Written(n) | Answer::Overlong(n) | Answer::Room(n) => n,
+        }
+    }
+}
+
 // Whether number 1 is not due.
 fn is_document(texts: &[u8], ends: &[u32]) -> bool
     ensures { result ≡ is_document texts.now ends.now }
 {
-    if ends.len() == 0 {
-        return false;
-    }
-    if common::MAX_COLUMNS < ends.len() {
-        return false;
-    }
-    if MAX_DOCUMENT < texts.len() {
-        return false;
-    }
-    offsets::is_cut(texts, ends)
+    0 < ends.len()
+        && ends.len() <= common::MAX_COLUMNS
+        && texts.len() <= MAX_DOCUMENT
+        && offsets::is_cut(texts, ends)
 }
 
 // Whether a text has a word over 64 bytes.
@@ -51,6 +70,7 @@ fn has_overlong(text: &[u8]) -> bool
     ensures { result ≡ has_overlong (words_of text.now) }
 {
     let mut at: usize = 0;
+    // `at` goes on word by word, and no `for` goes so.
     while at < text.len() {
         match tokenizer::next_word(text, at) {
             Word::Found { start: _, end } => {
@@ -71,14 +91,12 @@ fn has_overlong(text: &[u8]) -> bool
 fn first_overlong(texts: &[u8], ends: &[u32]) -> usize
     ensures { result ≡ first_overlong (cut texts.now ends.now) }
 {
-    let mut i: usize = 0;
-    while i < ends.len() {
+    for i in 0..ends.len() {
         if has_overlong(offsets::part(texts, ends, i)) {
             return i;
         }
-        i += 1;
     }
-    i
+    ends.len()
 }
 
 // Writes the leaf of a document into a room of zeros; the docid comes as its key.
@@ -87,15 +105,15 @@ fn write_leaf(docid: u64, texts: &[u8], ends: &[u32], room: &mut [u8]) -> Answer
     ensures value { result ≡ fitted_answer (length (document_leaf docid (cut texts.now ends.now))) (length room.old) }
     ensures room_after { room.new ≡ held (length room.old) (document_leaf docid (cut texts.now ends.now)) result }
 {
-    let mut folded = [0u8; 4096];
-    let mut rows = [0u64; 4096];
+    let mut folded = [0u8; MAX_DOCUMENT];
+    let mut rows = Rows::none();
     rows::fold_all(texts, &mut folded);
-    let n = rows::gather(texts, ends, &folded, &mut rows);
-    let need = terms::terms_size(&folded, &rows[..n], docid);
+    rows.gather(texts, ends, &folded);
+    let need = terms::terms_size(&folded, rows.as_slice(), docid);
     if room.len() < need {
         return Answer::Room(need);
     }
-    terms::put_terms(room, &folded, &rows[..n], docid);
+    terms::put_terms(room, &folded, rows.as_slice(), docid);
     Answer::Written(need)
 }
 

@@ -1,135 +1,144 @@
-// The words of a document, sorted. Each word that stands in the document has a row, a number of four parts of 16 bits:
-//
-//     start   end   column   position        start and end: where the word stands in the texts
-//
-// Rows are sorted by their words, which are read in the folded texts; rows of one word stay in the order of the document.
-ghost use Rattle.std.specs.Prelude.{◌≡◌, ◌∷◌, ◌++◌, map, ◌+◌, ◌≤◌, ◌<◌, length, take};
-ghost use Rattle.common.specs.Bytes.{part, span, over};
+// The words of a document, sorted: each word that stands in the document has a row. Rows are sorted by their words, which are read in
+// the folded texts; rows of one word stay in the order of the document.
+ghost use Rattle.std.specs.Prelude.{◌≡◌, List, [], map, ◌≤◌, ◌<◌, length, take};
+ghost use Rattle.std.specs.List.{prefix_len};
+ghost use Rattle.common.specs.Bytes.{part, over};
 ghost use Rattle.tokenizer.specs.Word.{fold};
-ghost use Rattle.writer.specs.Rows.{row_of, row_column, row_position, row_word, RowInside, AllInside, not_before, insert_row};
+ghost use Rattle.writer.specs.declared.rows.Row.{Row};
+ghost use Rattle.writer.specs.Rows.{row_of, no_row, row_word, RowInside, AllInside, not_before, insert_row};
 ghost use Rattle.writer.specs.Rows.{Addable, AddedTo, Gatherable, Gathered};
 
+use crate::MAX_DOCUMENT;
+use std::marker::Model;
 use tokenizer::Word;
 
-// One above the largest number that a part of a row holds.
-const PART: u64 = 65536;
+// A word that stands in the document.
+#[derive(Clone, Copy)]
+pub(crate) struct Row {
+    // Where it starts and ends in the texts.
+    pub start: u16,
+    pub end: u16,
+    pub column: u16,
+    // Its number among the words of its column.
+    pub position: u16,
+}
+
+// What stands before the first row.
+pub(crate) const NO_ROW: Row = Row {
+    start: 0,
+    end: 0,
+    column: 0,
+    position: 0,
+};
 
 // A row of its parts.
-fn row(start: usize, end: usize, column: usize, position: usize) -> u64
+fn row_of(start: usize, end: usize, column: usize, position: usize) -> Row
     requires { (start < 65536) × (end < 65536) × (column < 65536) × (position < 65536) }
     ensures { result ≡ row_of start end column position }
 {
-    (((start as u64) * PART + (end as u64)) * PART + (column as u64)) * PART + (position as u64)
-}
-
-// The column of a row.
-pub(crate) fn column_of(row: u64) -> u64
-    ensures { result ≡ row_column row }
-{
-    row / PART % PART
-}
-
-// The position of a row.
-pub(crate) fn position_of(row: u64) -> u64
-    ensures { result ≡ row_position row }
-{
-    row % PART
+    Row {
+        start: start as u16,
+        end: end as u16,
+        column: column as u16,
+        position: position as u16,
+    }
 }
 
 // The word of a row.
-pub(crate) fn word_of<'a>(folded: &'a [u8], row: u64) -> &'a [u8]
+pub(crate) fn word_of<'a>(folded: &'a [u8], row: Row) -> &'a [u8]
     requires { RowInside (length folded.now) row }
     ensures { result.now ≡ row_word folded.now row }
 {
-    let start = (row / PART / PART / PART) as usize;
-    let end = (row / PART / PART % PART) as usize;
-    &folded[start..end]
+    &folded[row.start as usize..row.end as usize]
 }
 
 // How many rows, from the first on, have no word that `w` comes before.
-fn place(folded: &[u8], rows: &[u64], w: &[u8]) -> usize
+fn place(folded: &[u8], rows: &[Row], w: &[u8]) -> usize
     requires { AllInside (length folded.now) rows.now }
-    ensures { result ≡ span (not_before folded.now w.now) rows.now }
+    ensures { result ≡ prefix_len (not_before folded.now w.now) rows.now }
 {
-    let mut i: usize = 0;
-    while i < rows.len() {
-        if leaf::is_before(w, word_of(folded, rows[i])) {
+    for (i, row) in rows.iter().enumerate() {
+        if leaf::is_before(w, word_of(folded, *row)) {
             return i;
         }
-        i += 1;
     }
-    i
+    rows.len()
 }
 
-// Puts a row at the place `at` among the first `n`; those from there on move up by one.
-fn shift_in(rows: &mut [u64], at: usize, n: usize, row: u64)
-    requires { (at ≤ n) × (n < length rows.old) }
-    ensures { take (n + 1) rows.new ≡ take at rows.old ++ row ∷ part rows.old at n }
-{
-    let mut carried = row;
-    let mut i = at;
-    while i <= n {
-        let next = rows[i];
-        rows[i] = carried;
-        carried = next;
-        i += 1;
-    }
-}
-
-// Puts a row at its place among the first `n`.
-fn insert(folded: &[u8], rows: &mut [u64], n: usize, row: u64)
-    requires { (n < length rows.old) × AllInside (length folded.now) (take n rows.old) × RowInside (length folded.now) row }
-    ensures { take (n + 1) rows.new ≡ insert_row folded.now row (take n rows.old) }
-{
-    let at = place(folded, &rows[..n], word_of(folded, row));
-    shift_in(rows, at, n, row);
-}
-
-// Adds the rows of a column, whose text stands from `base` on in the texts, to the first `n`; how many there are then.
-fn add_column(
-    text: &[u8],
-    base: usize,
-    column: usize,
-    folded: &[u8],
-    rows: &mut [u64],
+// The words of a document that have been gathered, as their rows: the first `n` of the array.
+#[derive(Drop)]
+pub(crate) struct Rows {
+    rows: [Row; MAX_DOCUMENT],
     n: usize,
-) -> usize
-    requires { Addable text.now base column folded.now rows.old n }
-    ensures { AddedTo text.now base column folded.now rows.old n rows.new result }
-{
-    let mut at: usize = 0;
-    let mut position: usize = 0;
-    while at < text.len() {
-        let Word::Found { start, end } = tokenizer::next_word(text, at) else {
-            return n + position;
-        };
-        insert(
-            folded,
-            rows,
-            n + position,
-            row(base + start, base + end, column, position),
-        );
-        position += 1;
-        at = end;
-    }
-    n + position
 }
 
-// The rows of a document, sorted; how many there are.
-pub(crate) fn gather(texts: &[u8], ends: &[u32], folded: &[u8], rows: &mut [u64]) -> usize
-    requires { Gatherable texts.now ends.now folded.now rows.old }
-    ensures { Gathered texts.now ends.now folded.now rows.new result }
-{
-    let mut n: usize = 0;
-    let mut base: usize = 0;
-    let mut i: usize = 0;
-    while i < ends.len() {
-        let text = offsets::part(texts, ends, i);
-        n = add_column(text, base, i, folded, rows, n);
-        base = ends[i] as usize;
-        i += 1;
+// Contracts see the rows alone.
+impl Model for Rows {
+    ghost Value = { List Row };
+
+    ghost view = { λ a. take a.n a.rows };
+
+    ghost invariant = { λ a. a.n ≤ 4096 };
+}
+
+impl Rows {
+    // No row.
+    pub(crate) fn none() -> Rows
+        ensures { result ≡ [] }
+    {
+        Rows {
+            rows: [NO_ROW; MAX_DOCUMENT],
+            n: 0,
+        }
     }
-    n
+
+    // The rows.
+    pub(crate) fn as_slice(&self) -> &[Row]
+        ensures { result.now ≡ self.now }
+    {
+        &self.rows[..self.n]
+    }
+
+    // Puts a row at its place; those from there on move up by one.
+    fn insert(&mut self, folded: &[u8], row: Row)
+        requires { (length self.old < 4096) × AllInside (length folded.now) self.old × RowInside (length folded.now) row }
+        ensures { self.new ≡ insert_row folded.now row self.old }
+    {
+        let at = place(folded, self.as_slice(), word_of(folded, row));
+        self.rows.copy_within(at..self.n, at + 1);
+        self.rows[at] = row;
+        self.n += 1;
+    }
+
+    // Adds the rows of a column, whose text stands from `base` on in the texts.
+    fn add_column(&mut self, text: &[u8], base: usize, column: usize, folded: &[u8])
+        requires { Addable text.now base column folded.now self.old }
+        ensures { AddedTo text.now base column folded.now self.old self.new }
+    {
+        let mut at: usize = 0;
+        let mut position: usize = 0;
+        // `at` goes on word by word, and no `for` goes so.
+        while at < text.len() {
+            let Word::Found { start, end } = tokenizer::next_word(text, at) else {
+                return;
+            };
+            self.insert(folded, row_of(base + start, base + end, column, position));
+            position += 1;
+            at = end;
+        }
+    }
+
+    // Adds the rows of a document, sorted.
+    pub(crate) fn gather(&mut self, texts: &[u8], ends: &[u32], folded: &[u8])
+        requires { Gatherable texts.now ends.now folded.now × (self.old ≡ []) }
+        ensures { Gathered texts.now ends.now folded.now self.new }
+    {
+        let mut base: usize = 0;
+        for (i, end) in ends.iter().enumerate() {
+            self.add_column(offsets::part(texts, ends, i), base, i, folded);
+            base = *end as usize;
+        }
+    }
 }
 
 // Folds every byte of the texts.
@@ -137,9 +146,7 @@ pub(crate) fn fold_all(texts: &[u8], folded: &mut [u8])
     requires { length texts.now ≤ length folded.old }
     ensures { folded.new ≡ over (map fold texts.now) folded.old }
 {
-    let mut i: usize = 0;
-    while i < texts.len() {
-        folded[i] = tokenizer::folded(texts[i]);
-        i += 1;
+    for (i, b) in texts.iter().enumerate() {
+        folded[i] = tokenizer::folded(*b);
     }
 }

@@ -8,68 +8,65 @@
 //
 // The docid comes as its key and is stored as its 64 bits.
 ghost use Rattle.std.specs.Prelude.{◌≡◌, ◌≤◌, length};
-ghost use Rattle.common.specs.Bytes.{span, over};
+ghost use Rattle.std.specs.List.{prefix_len};
+ghost use Rattle.common.specs.Bytes.{over};
 ghost use Rattle.doclist.specs.Doclist.{encode_all};
 ghost use Rattle.leaf.specs.Leaf.{sized};
-ghost use Rattle.writer.specs.Rows.{row_key, AllInside, same_word};
+ghost use Rattle.writer.specs.Rows.{no_row, row_key, AllInside, same_word};
 ghost use Rattle.writer.specs.Stored.{row_numbers, list_bytes, Rises, term_of, terms_of, Table};
 
-use crate::rows;
+use crate::rows::{self, Row};
 
 // How many rows, from the first on, have the word `w`.
-fn run(folded: &[u8], rows: &[u64], w: &[u8]) -> usize
+fn run(folded: &[u8], rows: &[Row], w: &[u8]) -> usize
     requires { AllInside (length folded.now) rows.now }
-    ensures { result ≡ span (same_word folded.now w.now) rows.now }
+    ensures { result ≡ prefix_len (same_word folded.now w.now) rows.now }
 {
-    let mut i: usize = 0;
-    while i < rows.len() {
-        if !common::is_same(w, rows::word_of(folded, rows[i])) {
+    for (i, row) in rows.iter().enumerate() {
+        if w != rows::word_of(folded, *row) {
             return i;
         }
-        i += 1;
     }
-    i
+    rows.len()
 }
 
-// How many bytes a row takes after the row `last`, which is 0 for the first.
-fn row_size(last: u64, row: u64) -> usize
+// How many bytes a row takes after the row `last`, which is `no_row` for the first.
+fn row_size(last: Row, row: Row) -> usize
     requires { row_key last ≤ row_key row }
     ensures { result ≡ length (encode_all (row_numbers last row)) }
 {
-    let column = rows::column_of(row);
-    let position = rows::position_of(row);
-    if column == rows::column_of(last) {
-        return varint::size(position - rows::position_of(last) + 2);
+    let column = row.column as u64;
+    let position = row.position as u64;
+    if row.column == last.column {
+        return varint::size(position - last.position as u64 + 2);
     }
     varint::size(1) + varint::size(column) + varint::size(position + 2)
 }
 
 // How many bytes a posting list takes.
-fn list_size(rows: &[u64], docid: u64) -> usize
-    requires { Rises 0 rows.now × (length rows.now ≤ 4096) }
+fn list_size(rows: &[Row], docid: u64) -> usize
+    requires { Rises no_row rows.now × (length rows.now ≤ 4096) }
     ensures { result ≡ length (list_bytes docid rows.now) }
 {
     let bits = doclist::keys::bits_of(docid);
     let mut total = varint::size(bits);
-    let mut last: u64 = 0;
-    let mut i: usize = 0;
-    while i < rows.len() {
-        total += row_size(last, rows[i]);
-        last = rows[i];
-        i += 1;
+    let mut last = rows::NO_ROW;
+    for row in rows {
+        total += row_size(last, *row);
+        last = *row;
     }
     total + varint::size(0)
 }
 
-// Puts a row after the row `last`, which is 0 for the first, at the front of the room.
-fn put_row(out: &mut [u8], last: u64, row: u64) -> usize
+// Puts a row after the row `last`, which is `no_row` for the first, at the front of the room.
+fn put_row(out: &mut [u8], last: Row, row: Row) -> usize
     requires { (row_key last ≤ row_key row) × (length (encode_all (row_numbers last row)) ≤ length out.old) }
     ensures { (result ≡ length (encode_all (row_numbers last row))) × (out.new ≡ over (encode_all (row_numbers last row)) out.old) }
 {
-    let column = rows::column_of(row);
-    let position = rows::position_of(row);
-    if column == rows::column_of(last) {
-        return storing::put_number(out, position - rows::position_of(last) + 2);
+    let column = row.column as u64;
+    let position = row.position as u64;
+    if row.column == last.column {
+        return storing::put_number(out, position - last.position as u64 + 2);
     }
     let mut at = storing::put_number(out, 1);
     at += storing::put_number(&mut out[at..], column);
@@ -77,25 +74,23 @@ fn put_row(out: &mut [u8], last: u64, row: u64) -> usize
 }
 
 // Puts a posting list at the front of the room.
-fn put_list(out: &mut [u8], rows: &[u64], docid: u64) -> usize
-    requires { Rises 0 rows.now × (length (list_bytes docid rows.now) ≤ length out.old) }
+fn put_list(out: &mut [u8], rows: &[Row], docid: u64) -> usize
+    requires { Rises no_row rows.now × (length (list_bytes docid rows.now) ≤ length out.old) }
     ensures { (result ≡ length (list_bytes docid rows.now)) × (out.new ≡ over (list_bytes docid rows.now) out.old) }
 {
     let bits = doclist::keys::bits_of(docid);
     let mut at = storing::put_number(out, bits);
-    let mut last: u64 = 0;
-    let mut i: usize = 0;
-    while i < rows.len() {
-        at += put_row(&mut out[at..], last, rows[i]);
-        last = rows[i];
-        i += 1;
+    let mut last = rows::NO_ROW;
+    for row in rows {
+        at += put_row(&mut out[at..], last, *row);
+        last = *row;
     }
     at + storing::put_number(&mut out[at..], 0)
 }
 
 // How many bytes a term takes after the word `before`.
-fn term_size(before: &[u8], w: &[u8], rows: &[u64], docid: u64) -> usize
-    requires { Rises 0 rows.now × (length rows.now ≤ 4096) }
+fn term_size(before: &[u8], w: &[u8], rows: &[Row], docid: u64) -> usize
+    requires { Rises no_row rows.now × (length rows.now ≤ 4096) }
     ensures { result ≡ length (term_of before.now w.now docid rows.now) }
 {
     let list = list_size(rows, docid);
@@ -103,8 +98,8 @@ fn term_size(before: &[u8], w: &[u8], rows: &[u64], docid: u64) -> usize
 }
 
 // Puts a posting list after its length at the front of the room.
-fn put_postings(out: &mut [u8], rows: &[u64], docid: u64) -> usize
-    requires rises { Rises 0 rows.now × (length rows.now ≤ 4096) }
+fn put_postings(out: &mut [u8], rows: &[Row], docid: u64) -> usize
+    requires rises { Rises no_row rows.now × (length rows.now ≤ 4096) }
     requires rows_in_bounds { length (sized (list_bytes docid rows.now)) ≤ length out.old }
     ensures { (result ≡ length (sized (list_bytes docid rows.now))) × (out.new ≡ over (sized (list_bytes docid rows.now)) out.old) }
 {
@@ -113,37 +108,37 @@ fn put_postings(out: &mut [u8], rows: &[u64], docid: u64) -> usize
 }
 
 // How many bytes all terms take.
-pub(crate) fn terms_size(folded: &[u8], rows: &[u64], docid: u64) -> usize
+pub(crate) fn terms_size(folded: &[u8], rows: &[Row], docid: u64) -> usize
     requires { Table folded.now rows.now }
     ensures { result ≡ length (terms_of folded.now docid rows.now) }
 {
     let mut total: usize = 0;
-    let mut last: u64 = 0;
-    let mut i: usize = 0;
-    while i < rows.len() {
-        let w = rows::word_of(folded, rows[i]);
-        let next = i + run(folded, &rows[i..], w);
-        total += term_size(rows::word_of(folded, last), w, &rows[i..next], docid);
-        last = rows[i];
-        i = next;
+    let mut last = rows::NO_ROW;
+    let mut rest = rows;
+    while let [first, ..] = rest {
+        let w = rows::word_of(folded, *first);
+        let (term, later) = rest.split_at(run(folded, rest, w));
+        total += term_size(rows::word_of(folded, last), w, term, docid);
+        last = *first;
+        rest = later;
     }
     total
 }
 
 // Puts all terms into the room: each word goes to the room that is still free, and what stands before it is not touched.
-pub(crate) fn put_terms(out: &mut [u8], folded: &[u8], rows: &[u64], docid: u64)
+pub(crate) fn put_terms(out: &mut [u8], folded: &[u8], rows: &[Row], docid: u64)
     requires { Table folded.now rows.now × (length (terms_of folded.now docid rows.now) ≤ length out.old) }
     ensures { out.new ≡ over (terms_of folded.now docid rows.now) out.old }
 {
     let mut at: usize = 0;
-    let mut last: u64 = 0;
-    let mut i: usize = 0;
-    while i < rows.len() {
-        let w = rows::word_of(folded, rows[i]);
-        let next = i + run(folded, &rows[i..], w);
+    let mut last = rows::NO_ROW;
+    let mut rest = rows;
+    while let [first, ..] = rest {
+        let w = rows::word_of(folded, *first);
+        let (term, later) = rest.split_at(run(folded, rest, w));
         at += storing::put_word(&mut out[at..], rows::word_of(folded, last), w);
-        at += put_postings(&mut out[at..], &rows[i..next], docid);
-        last = rows[i];
-        i = next;
+        at += put_postings(&mut out[at..], term, docid);
+        last = *first;
+        rest = later;
     }
 }

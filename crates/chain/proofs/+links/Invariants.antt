@@ -4,4 +4,4 @@ use Rattle.std.proofs.Common.{◌-◌, length}
 use Rattle.chain.proofs.+links.Given as goal
 
 abbrev pub decreases-links : goal.decreases-links
-decreases-links l = length l.ties.now - l.end
+decreases-links l = length l.words.now.ties.now - l.end

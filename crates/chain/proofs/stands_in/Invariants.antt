@@ -7,7 +7,7 @@ use Rattle.chain.proofs.Walks.{SeekingColumn}
 use Rattle.chain.proofs.stands_in.Given as goal
 
 abbrev pub invariant-loop-found : goal.invariant-loop-found
-invariant-loop-found l = ((hits : List Hit) → WholeRow l.leaves l.starts l.masks hits → SeekingColumn l.leaves l.starts l.masks l.i l.columns hits l.found)
+invariant-loop-found l = ((hits : List Hit) → WholeRow l.row.leaves.now l.row.starts.now l.row.masks.now hits → SeekingColumn l.row.leaves.now l.row.starts.now l.row.masks.now l.i l.columns hits l.found)
 
 abbrev pub decreases-loop-found : goal.decreases-loop-found
-decreases-loop-found l = left l.leaves l.starts l.found
+decreases-loop-found l = left l.row.leaves.now l.row.starts.now l.found

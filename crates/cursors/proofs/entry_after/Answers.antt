@@ -1,68 +1,63 @@
 -- `cursors::entry_after` meets its contract: where an entry stands at `body`, the next one of its list is read after its first
 -- byte 0.
-use Rattle.cursors.proofs.Bodies.{last_inside, stands_last, next_not_refused, next_here, span_inside}
-use mathlib.Core.Path.{sym, ◌∙◌}
-use native.Mathlib.Omega.{arith}
+use Rattle.std.proofs.Common.{◌≡◌, ℕ, ◌+◌, List, Some, ◌∙◌, ap, arith, length, refl, rules, slice_range, subst, sym}
+use Rattle.common.specs.Bytes.{part, span}
+use Rattle.cursors.specs.Arrays.{is_open}
+use Rattle.cursors.proofs.Bodies.{last_inside, stands_last, next_not_refused, next_here, FirstZero, first_zero}
 use Rattle.cursors.proofs.entry_after.Goals as goal
 
-pub returns-then-to-from : goal.returns-then-to-from
-returns-then-to-from c =
-    record {
-      content = λ e rest small on. absurd (omega (arith, last_inside on));
-      onward = (λ h. omega arith, omega arith);
-    }
+-- the first byte 0 of the part that was taken closes the entry's body, and the list goes on after it
+closes : (leaves : List ℕ) {entry : List ℕ} {from to body last size : ℕ} → from ≡ body → to ≡ last → entry ≡ slice_range leaves from to → length entry + from ≡ to
+    → FirstZero entry (Some size) → (size ≡ span is_open (part leaves body last)) × (body + size ≡ last → ⊥)
+closes leaves {entry} {from} {to} {body} {last} {size} f t q l z =
+    let p : entry ≡ part leaves body last = rw (q, f, t) refl in
+    (z.0 ∙ ap (span is_open) p, λ e. omega (arith, z.1))
 
-pub returns-then-leaves-to : goal.returns-then-leaves-to
-returns-then-leaves-to c =
-    record {
-      content = λ e rest small on. absurd (omega (arith, last_inside on));
-      onward = (λ h. omega arith, omega arith);
-    }
+pub returns-in_default-clause-content : goal.returns-in_default-clause-content
+returns-in_default-clause-content c e rest small on = absurd (omega (arith, last_inside on, c.in_default.ensures.lookup.0))
 
-pub overflow_add-close : goal.overflow_add-close
-overflow_add-close c = omega (arith, c.open_bytes.ensures, span_inside c.args.leaves.now c.args.body c.args.last)
+pub returns-in_default-first_zero-clause-content : goal.returns-in_default-first_zero-clause-content
+returns-in_default-first_zero-clause-content c e rest small on =
+    let entry = c.in-Some.entry.now in
+    let q : entry ≡ part c.args.leaves.now c.args.body c.args.last = search rules in
+    stands_last (length entry) on (sym (first_zero entry c.in_default-first_zero.ensures) ∙ ap (span is_open) q) (omega (arith, last_inside on, c.in-Some.ensures.lookup))
 
-pub returns-then-close-to : goal.returns-then-close-to
-returns-then-close-to c =
-    record {
-      content = λ e rest small on. stands_last c.open_bytes.result on c.open_bytes.ensures c.if-close-to.true;
-      onward = (λ h. omega arith, omega arith);
-    }
+pub returns-in_default-read-clause-content : goal.returns-in_default-read-clause-content
+returns-in_default-read-clause-content c e rest small on =
+    let entry = c.in-Some.entry.now in
+    let size = c.in-Some-first_zero.size in
+    let z = closes c.args.leaves.now c.from-from.ensures c.from-to.ensures c.in-Some.ensures.lookup.0.2 c.in-Some.ensures.lookup.0.3 (subst (FirstZero entry) c.in-Some-first_zero.is (first_zero entry c.first_zero.ensures)) in
+    let r = rw c.from-from.ensures at c.read.ensures.reader in
+    next_not_refused size on z.0 z.1 (sym r ∙ c.in_default-read.is)
 
-pub overflow_add-close-2 : goal.overflow_add-close-2
-overflow_add-close-2 c = omega (arith, c.open_bytes.ensures, span_inside c.args.leaves.now c.args.body c.args.last)
+pub returns-then-value-eq0-clause-content : goal.returns-then-value-eq0-clause-content
+returns-then-value-eq0-clause-content c e rest small on =
+    let entry = c.in-Some.entry.now in
+    let size = c.in-Some-first_zero.size in
+    let z = closes c.args.leaves.now c.from-from.ensures c.from-to.ensures c.in-Some.ensures.lookup.0.2 c.in-Some.ensures.lookup.0.3 (subst (FirstZero entry) c.in-Some-first_zero.is (first_zero entry c.first_zero.ensures)) in
+    let r = rw c.from-from.ensures at c.read.ensures.reader in
+    let k = next_here size on z.0 z.1 (sym r ∙ c.in-Value.is) in absurd (omega (arith, k.more))
 
-pub returns-in_default : goal.returns-in_default
-returns-in_default c =
-    record {
-      content = λ e rest small on. next_not_refused c.open_bytes.result on c.open_bytes.ensures c.if-close-to.false (sym c.read.ensures.reader ∙ c.in_default.is);
-      onward = (λ h. omega arith, omega arith);
-    }
+pub returns-in_default-checked_add-clause-content : goal.returns-in_default-checked_add-clause-content
+returns-in_default-checked_add-clause-content c e rest small on =
+    let entry = c.in-Some.entry.now in
+    let size = c.in-Some-first_zero.size in
+    let z = closes c.args.leaves.now c.from-from.ensures c.from-to.ensures c.in-Some.ensures.lookup.0.2 c.in-Some.ensures.lookup.0.3 (subst (FirstZero entry) c.in-Some-first_zero.is (first_zero entry c.first_zero.ensures)) in
+    let r = rw c.from-from.ensures at c.read.ensures.reader in
+    let k = next_here size on z.0 z.1 (sym r ∙ c.in-Value.is) in absurd (c.in_default-checked_add.ensures (omega (arith, k.fits)))
 
-pub returns-then-value-eq0 : goal.returns-then-value-eq0
-returns-then-value-eq0 c =
-    record {
-      content = λ e rest small on. let k = next_here c.open_bytes.result on c.open_bytes.ensures c.if-close-to.false (sym c.read.ensures.reader ∙ c.in-Value.is) in absurd (omega (arith, k.more));
-      onward = (λ h. omega arith, omega arith);
-    }
+pub returns-in_default-try_from-clause-content : goal.returns-in_default-try_from-clause-content
+returns-in_default-try_from-clause-content c e rest small on =
+    let entry = c.in-Some.entry.now in
+    let size = c.in-Some-first_zero.size in
+    let z = closes c.args.leaves.now c.from-from.ensures c.from-to.ensures c.in-Some.ensures.lookup.0.2 c.in-Some.ensures.lookup.0.3 (subst (FirstZero entry) c.in-Some-first_zero.is (first_zero entry c.first_zero.ensures)) in
+    let r = rw c.from-from.ensures at c.read.ensures.reader in
+    let k = next_here size on z.0 z.1 (sym r ∙ c.in-Value.is) in absurd (omega (arith, k.inside, c.in_default-try_from.ensures))
 
-pub returns-then-docid-value : goal.returns-then-docid-value
-returns-then-docid-value c =
-    record {
-      content = λ e rest small on. let k = next_here c.open_bytes.result on c.open_bytes.ensures c.if-close-to.false (sym c.read.ensures.reader ∙ c.in-Value.is) in absurd (omega (arith, k.fits));
-      onward = (λ h. omega arith, omega arith);
-    }
-
-pub returns-then-next-gt-LAST_PLACE : goal.returns-then-next-gt-LAST_PLACE
-returns-then-next-gt-LAST_PLACE c =
-    record {
-      content = λ e rest small on. let k = next_here c.open_bytes.result on c.open_bytes.ensures c.if-close-to.false (sym c.read.ensures.reader ∙ c.in-Value.is) in absurd (omega (arith, k.inside));
-      onward = (λ h. omega arith, omega arith);
-    }
-
-pub returns : goal.returns
-returns c =
-    record {
-      content = λ e rest small on. (next_here c.open_bytes.result on c.open_bytes.ensures c.if-close-to.false (sym c.read.ensures.reader ∙ c.in-Value.is)).stands;
-      onward = (λ h. omega arith, omega arith);
-    }
+pub returns-clause-content : goal.returns-clause-content
+returns-clause-content c e rest small on =
+    let entry = c.in-Some.entry.now in
+    let size = c.in-Some-first_zero.size in
+    let z = closes c.args.leaves.now c.from-from.ensures c.from-to.ensures c.in-Some.ensures.lookup.0.2 c.in-Some.ensures.lookup.0.3 (subst (FirstZero entry) c.in-Some-first_zero.is (first_zero entry c.first_zero.ensures)) in
+    let r = rw c.from-from.ensures at c.read.ensures.reader in
+    let k = next_here size on z.0 z.1 (sym r ∙ c.in-Value.is) in rw (c.in-Some-checked_add.ensures.1, c.in-Ok.ensures.1) k.stands

@@ -1,5 +1,4 @@
 -- `cursors::pass` meets its contract.
-use borrow.Author.Tests.{not-true, not-false}
 use Rattle.common.proofs.Cases.{false_not_true}
 use Rattle.common.specs.Bytes.{part}
 use lib.ListN.{length-set, get_or, set}
@@ -9,72 +8,27 @@ use Rattle.cursors.proofs.Blocks.{block_part, minima_set}
 use Rattle.cursors.proofs.Passing.{passed_from, passed}
 use mathlib.Core.Path.{◌≡◌, refl, sym, ap, ◌∙◌}
 use mathlib.Core.List.{List}
-use Prim.Native.Nat.{ℕ, ◌+◌, ◌*◌, ◌/◌, ◌≤◌, min}
+use Prim.Native.Nat.{ℕ, ◌+◌, ◌*◌, ◌/◌, ◌≤◌, ◌<◌, min}
 use native.Mathlib.Omega.{arith}
-use borrow.Author.Rules.{rules}
+use Rattle.cursors.specs.Frames.{MoveRoom}
 use Rattle.cursors.proofs.pass.Goals as goal
+use Rattle.cursors.proofs.pass.Goals.{then-n-i-via-then-n-i, then-n-i-via-else-n-i+then-not-can_move}
 
 pub returns-then-n-i : goal.returns-then-n-i
-returns-then-n-i c = record {
-  content = λ masks follows gs are minima inside top others. absurd (omega arith);
-  otherwise = λ o. record { answer = refl; cursors_same = refl };
-  frame = λ h m. absurd (omega arith);
-}
-
-pub returns-then-not-can_move : goal.returns-then-not-can_move
-returns-then-not-can_move c = let no = not-true _ c.if-not-can_move.true-raw in
+returns-then-n-i c = let a = c.args in
+    let refused : (a.i < a.n) × MoveRoom a.n a.docids.now a.bodies.now a.lasts.now a.mins.now → ⊥ =
+    λ h. elim c.then-n-i.branch [
+      | then-n-i-via-then-n-i w ↦ omega (arith, h.0)
+      | then-n-i-via-else-n-i+then-not-can_move w ↦
+          let m = h.1 in false_not_true (sym w.if-not-can_move.true ∙ w.can_move.ensures.1 (m.docid_room, m.body_room, m.last_room, m.min_room))
+    ] in
     record {
       content =
           λ masks follows gs are minima inside top others.
-          let h = are.hold.room in absurd (false_not_true {X = ⊥} (sym no ∙ c.can_move.ensures.1 (h.docid_room, h.body_room, h.last_room, minima.room)));
+          let h = are.hold.room in absurd (refused (inside, record { docid_room = h.docid_room; body_room = h.body_room; last_room = h.last_room; min_room = minima.room }));
       otherwise = λ o. record { answer = refl; cursors_same = refl };
-      frame = λ h m. absurd (false_not_true {X = ⊥} (sym no ∙ c.can_move.ensures.1 (m.docid_room, m.body_room, m.last_room, m.min_room)));
+      frame = λ inside m. absurd (refused (inside, m));
     }
-
-pub offset_bounds-docids-i : goal.offset_bounds-docids-i
-offset_bounds-docids-i c = search (rules, c.can_move.ensures.0 (not-false _ c.if-not-can_move.false-raw))
-
-pub bounds-docids-i : goal.bounds-docids-i
-bounds-docids-i c = search (rules, c.can_move.ensures.0 (not-false _ c.if-not-can_move.false-raw))
-
-pub offset_bounds-bodies-i : goal.offset_bounds-bodies-i
-offset_bounds-bodies-i c = search (rules, c.can_move.ensures.0 (not-false _ c.if-not-can_move.false-raw))
-
-pub bounds-bodies-i : goal.bounds-bodies-i
-bounds-bodies-i c = search (rules, c.can_move.ensures.0 (not-false _ c.if-not-can_move.false-raw))
-
-pub offset_bounds-lasts-i : goal.offset_bounds-lasts-i
-offset_bounds-lasts-i c = search (rules, c.can_move.ensures.0 (not-false _ c.if-not-can_move.false-raw))
-
-pub bounds-lasts-i : goal.bounds-lasts-i
-bounds-lasts-i c = search (rules, c.can_move.ensures.0 (not-false _ c.if-not-can_move.false-raw))
-
-pub offset_bounds-docids-i-2 : goal.offset_bounds-docids-i-2
-offset_bounds-docids-i-2 c = search (rules, c.can_move.ensures.0 (not-false _ c.if-not-can_move.false-raw))
-
-pub bounds-docids-i-2 : goal.bounds-docids-i-2
-bounds-docids-i-2 c = search (rules, c.can_move.ensures.0 (not-false _ c.if-not-can_move.false-raw))
-
-pub offset_bounds-bodies-i-2 : goal.offset_bounds-bodies-i-2
-offset_bounds-bodies-i-2 c = search (rules, c.can_move.ensures.0 (not-false _ c.if-not-can_move.false-raw))
-
-pub bounds-bodies-i-2 : goal.bounds-bodies-i-2
-bounds-bodies-i-2 c = search (rules, c.can_move.ensures.0 (not-false _ c.if-not-can_move.false-raw))
-
-pub offset_bounds-docids-from : goal.offset_bounds-docids-from
-offset_bounds-docids-from c = search (rules, c.can_move.ensures.0 (not-false _ c.if-not-can_move.false-raw))
-
-pub slice_bounds-least_of-end : goal.slice_bounds-least_of-end
-slice_bounds-least_of-end c = let a = c.args in
-    let z = length-set a.docids.now a.i c.place_from-place.result.docid in
-    omega (arith, c.can_move.ensures.0 (not-false _ c.if-not-can_move.false-raw), c.block_end-to.ensures)
-
-pub bounds-mins-b : goal.bounds-mins-b
-bounds-mins-b c = search (rules, c.can_move.ensures.0 (not-false _ c.if-not-can_move.false-raw))
-
-pub least_block-requires : goal.least_block-requires
-least_block-requires c = let z = length-set c.args.mins.now (c.args.i / block_size) c.least_of.result in
-    omega (arith, c.can_move.ensures.0 (not-false _ c.if-not-can_move.false-raw))
 
 pub returns : goal.returns
 returns c = let a = c.args in
@@ -89,7 +43,7 @@ returns c = let a = c.args in
     let q : b * block_size ≡ block_size * b = omega arith in
     let ends : to ≡ min a.n (block_size * b + block_size) = omega (arith, c.block_end-to.ensures) in
     let least = c.least_of.ensures ∙ ap (λ (x : ℕ). least_of (part moved x to)) q in
-    let room = c.can_move.ensures.0 (not-false _ c.if-not-can_move.false-raw) in
+    let room = c.can_move.ensures.0 c.if-not-can_move.false in
     record {
       content =
           λ masks follows gs are minima inside top others.

@@ -1,10 +1,11 @@
--- `has_same_pair` meets its contract: levels first, then indexes.
-use Rattle.common.proofs.Cases.{false_not_true}
-use Rattle.directory.proofs.Placing.{level_same, pair_same}
+-- `has_same_pair` meets its contract: a level and an index are a pair.
+use native.Mathlib.Omega.{arith}
+use Rattle.std.proofs.lemmas.Grind.{common_steps}
+use Rattle.directory.proofs.Placing.{pair_same, same_pair}
 use Rattle.directory.proofs.has_same_pair.Goals as goal
 
-pub returns-then-levels-i : goal.returns-then-levels-i
-returns-then-levels-i c = let a = c.args in (λ e. false_not_true e, λ e. absurd (c.if-levels-i.true (level_same a.levels.now a.indexes.now c.requires.0 a.i a.j e)))
-
 pub returns : goal.returns
-returns c = let a = c.args in pair_same a.levels.now a.indexes.now c.requires.0 a.i a.j c.if-levels-i.false
+returns c = let a = c.args in (
+  λ t. pair_same a.levels.now a.indexes.now c.requires.0 a.i a.j (grind (arith, common_steps)),
+  λ t. let q = same_pair a.levels.now a.indexes.now c.requires.0 a.i a.j t in grind (arith, common_steps),
+)

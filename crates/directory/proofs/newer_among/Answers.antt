@@ -5,47 +5,17 @@ use lib.ListN.{get_or}
 use borrow.Author.Tests.{not-true, not-false}
 use Rattle.common.proofs.Cases.{split}
 use Rattle.directory.specs.Age.{Newer, pairs, pair_at}
-use Rattle.directory.proofs.Placing.{place_below, places_length, newer_told, not_newer_told}
+use Rattle.directory.proofs.Placing.{place_below, newer_told, not_newer_told}
 use Rattle.directory.proofs.newer_among.Goals as goal
-
-pub loop-i-init : goal.loop-i-init
-loop-i-init c = (omega arith, λ j h. absurd (omega arith))
-
-pub bounds-places-i : goal.bounds-places-i
-bounds-places-i c = omega (arith, places_length c.requires.0 (omega (arith, c.requires.2, c.requires.3)), c.requires.2, c.requires.3, c.loop-i-test.true)
-
-pub overflow_cast-other : goal.overflow_cast-other
-overflow_cast-other c = omega (arith, c.type_inv.places c.loop-i.i)
-
-pub offset_bounds-levels-other : goal.offset_bounds-levels-other
-offset_bounds-levels-other c = omega (arith, place_below c.requires.0 c.loop-i.i c.loop-i-test.true, c.requires.2, c.requires.3)
 
 pub bounds-levels-other : goal.bounds-levels-other
 bounds-levels-other c = omega (arith, place_below c.requires.0 c.loop-i.i c.loop-i-test.true, c.requires.2)
 
-pub offset_bounds-indexes-other : goal.offset_bounds-indexes-other
-offset_bounds-indexes-other c = omega (arith, place_below c.requires.0 c.loop-i.i c.loop-i-test.true, c.requires.2, c.requires.3)
-
 pub bounds-indexes-other : goal.bounds-indexes-other
 bounds-indexes-other c = omega (arith, place_below c.requires.0 c.loop-i.i c.loop-i-test.true, c.requires.1, c.requires.2)
 
-pub offset_bounds-levels-k : goal.offset_bounds-levels-k
-offset_bounds-levels-k c = omega (arith, c.requires.2, c.requires.3)
-
-pub bounds-levels-k : goal.bounds-levels-k
-bounds-levels-k c = c.requires.2
-
-pub offset_bounds-indexes-k : goal.offset_bounds-indexes-k
-offset_bounds-indexes-k c = omega (arith, c.requires.2, c.requires.3)
-
-pub bounds-indexes-k : goal.bounds-indexes-k
-bounds-indexes-k c = omega (arith, c.requires.1, c.requires.2)
-
 pub returns-then-not-is_newer : goal.returns-then-not-is_newer
-returns-then-not-is_newer c = record { within = c.loop-i.invariant.0; newer = c.loop-i.invariant.1; first = λ h. not_newer_told c.args.levels.now c.args.indexes.now c.requires.1 (get_or c.args.places.now c.loop-i.i 0) c.args.k _ c.is_newer.ensures (not-true _ c.if-not-is_newer.true-raw) }
+returns-then-not-is_newer c = record { within = omega arith; newer = c.loop-i.invariant; first = λ h. not_newer_told c.args.levels.now c.args.indexes.now c.requires.1 (get_or c.args.places.now c.loop-i.i 0) c.args.k _ c.is_newer.ensures (not-true _ c.if-not-is_newer.true-raw) }
 
 pub loop-i-preserved : goal.loop-i-preserved
-loop-i-preserved c = (omega (arith, c.loop-i-test.true), λ j h. split j c.loop-i.i (λ m. c.loop-i.invariant.1 j m) (λ m. let e : c.loop-i.i ≡ j = omega arith in subst (λ n. Newer (pair_at (pairs c.args.levels.now c.args.indexes.now) (get_or c.args.places.now n 0)) (pair_at (pairs c.args.levels.now c.args.indexes.now) c.args.k)) e (newer_told c.args.levels.now c.args.indexes.now c.requires.1 (get_or c.args.places.now c.loop-i.i 0) c.args.k _ c.is_newer.ensures (not-false _ c.if-not-is_newer.false-raw))))
-
-pub returns : goal.returns
-returns c = record { within = c.loop-i.invariant.0; newer = c.loop-i.invariant.1; first = λ h. absurd (omega arith) }
+loop-i-preserved c = λ j h. split j c.loop-i.i (λ m. c.loop-i.invariant j m) (λ m. let e : c.loop-i.i ≡ j = omega arith in subst (λ n. Newer (pair_at (pairs c.args.levels.now c.args.indexes.now) (get_or c.args.places.now n 0)) (pair_at (pairs c.args.levels.now c.args.indexes.now) c.args.k)) e (newer_told c.args.levels.now c.args.indexes.now c.requires.1 (get_or c.args.places.now c.loop-i.i 0) c.args.k _ c.is_newer.ensures (not-false _ c.if-not-is_newer.false-raw)))

@@ -8,7 +8,7 @@ use Rattle.doclist.specs.Spots.{Checking, Closes}
 use Rattle.doclist.specs.declared.State.TheVariants.{Open}
 use Rattle.doclist.proofs.Steps.{checking_ends, checking_refused}
 use Rattle.doclist.proofs.Law.{checked, check_wrong}
-use Rattle.doclist.proofs.Spots.{inside, at_number, at_refused, checking_start, docid_again, docid_large, next_entry}
+use Rattle.doclist.proofs.Spots.{inside, at_number, at_refused, checking_start, docid_refused, next_entry}
 use Rattle.doclist.proofs.check.Goals as goal
 
 pub returns-then-columns-eq0 : goal.returns-then-columns-eq0
@@ -46,49 +46,33 @@ returns-in_default-close c =
 pub returns-then-s-end : goal.returns-then-s-end
 returns-then-s-end c =
     let a = c.args in
-    let k = (subst (Closes _ _ _) c.in-At.is c.close.ensures).1 _ c.loop-end.invariant in
+    let k = (subst (Closes _ _ _) c.in-Some.is c.close.ensures).1 _ c.loop-end.invariant in
     let both = checked a.columns a.s.now (sym (checking_ends k c.if-s-end.true)) in
     record { reader = both.0; content = both.1 }
 
 pub returns-in_default-read : goal.returns-in_default-read
 returns-in_default-read c =
     let a = c.args in
-    let k = (subst (Closes _ _ _) c.in-At.is c.close.ensures).1 _ c.loop-end.invariant in
+    let k = (subst (Closes _ _ _) c.in-Some.is c.close.ensures).1 _ c.loop-end.invariant in
     let e = sym c.read-in-loop-end.ensures.reader ∙ c.in_default-read.is in
     let both = checked a.columns a.s.now (sym (checking_refused k c.if-s-end.false e)) in
     record { reader = both.0; content = both.1 }
 
-pub returns-then-v-eq0 : goal.returns-then-v-eq0
-returns-then-v-eq0 c =
+pub returns-in_default-later_docid : goal.returns-in_default-later_docid
+returns-in_default-later_docid c =
     let a = c.args in
-    let k = (subst (Closes _ _ _) c.in-At.is c.close.ensures).1 _ c.loop-end.invariant in
+    let k = (subst (Closes _ _ _) c.in-Some.is c.close.ensures).1 _ c.loop-end.invariant in
     let e = sym c.read-in-loop-end.ensures.reader ∙ c.in-Value-read.is in
-    let both = checked a.columns a.s.now (sym (docid_again k e c.if-v-eq0.true)) in
+    let both = checked a.columns a.s.now (sym (docid_refused k e (sym c.later_docid.ensures ∙ c.in_default-later_docid.is))) in
     record { reader = both.0; content = both.1 }
-
-pub overflow_sub-docid : goal.overflow_sub-docid
-overflow_sub-docid c = let h = c.loop-end.invariant.sane.0 in
-    omega arith
-
-pub returns-then-docid-v : goal.returns-then-docid-v
-returns-then-docid-v c =
-    let a = c.args in
-    let k = (subst (Closes _ _ _) c.in-At.is c.close.ensures).1 _ c.loop-end.invariant in
-    let e = sym c.read-in-loop-end.ensures.reader ∙ c.in-Value-read.is in
-    let both = checked a.columns a.s.now (sym (docid_large k e c.if-v-eq0.false (omega arith))) in
-    record { reader = both.0; content = both.1 }
-
-pub overflow_add-docid : goal.overflow_add-docid
-overflow_add-docid c = let h = c.loop-end.invariant.sane.0 in
-    omega arith
 
 pub loop-end-smaller : goal.loop-end-smaller
-loop-end-smaller c = let p = (subst (Closes _ _ _) c.in-At.is c.close.ensures).0 in
+loop-end-smaller c = let p = (subst (Closes _ _ _) c.in-Some.is c.close.ensures).0 in
     let e = sym c.read-in-loop-end.ensures.reader ∙ c.in-Value-read.is in
     let h = inside _ _ _ _ e in
     omega arith
 
 pub loop-end-preserved : goal.loop-end-preserved
-loop-end-preserved c = let k = (subst (Closes _ _ _) c.in-At.is c.close.ensures).1 _ c.loop-end.invariant in
+loop-end-preserved c = let k = (subst (Closes _ _ _) c.in-Some.is c.close.ensures).1 _ c.loop-end.invariant in
     let e = sym c.read-in-loop-end.ensures.reader ∙ c.in-Value-read.is in
-    next_entry k e c.if-v-eq0.false (omega arith)
+    next_entry k e (sym c.later_docid.ensures ∙ c.in-Some-later_docid.is)

@@ -18,24 +18,24 @@ returns-then-v-eq-POS_END c = let e = sym c.read.ensures.reader ∙ c.in-Value.i
 pub spot_after-requires : goal.spot_after-requires
 spot_after-requires c = c.loop-v.invariant.small
 
-pub returns-in_default-spot_after : goal.returns-in_default-spot_after
-returns-in_default-spot_after c = let e = sym c.read.ensures.reader ∙ c.in-Value.is in
-    let f = sym c.spot_after.ensures ∙ c.in_default-spot_after.is in
-    closing_broken c.loop-v.invariant e c.if-v-eq-POS_END.false f
+pub returns-in_err-spot : goal.returns-in_err-spot
+returns-in_err-spot c = let e = sym c.read.ensures.reader ∙ c.in-Value.is in
+    let f = sym c.spot_after.ensures ∙ c.in_err-spot.was in
+    rw c.from_residual.ensures (closing_broken c.loop-v.invariant e c.if-v-eq-POS_END.false f)
 
 pub overflow_add-low : goal.overflow_add-low
 overflow_add-low c = let e = sym c.read.ensures.reader ∙ c.in-Value.is in
-    let f = sym c.spot_after.ensures ∙ c.in-At.is in
+    let f = sym c.spot_after.ensures ∙ c.in_ok-spot.was in
     let g = closing_small c.loop-v.invariant e f in
     omega arith
 
 pub loop-v-smaller : goal.loop-v-smaller
 loop-v-smaller c = let e = sym c.read.ensures.reader ∙ c.in-Value.is in
-    let f = sym c.spot_after.ensures ∙ c.in-At.is in
+    let f = sym c.spot_after.ensures ∙ c.in_ok-spot.was in
     let g = closing_small c.loop-v.invariant e f in
     omega arith
 
 pub loop-v-preserved : goal.loop-v-preserved
 loop-v-preserved c = let e = sym c.read.ensures.reader ∙ c.in-Value.is in
-    let f = sym c.spot_after.ensures ∙ c.in-At.is in
+    let f = sym c.spot_after.ensures ∙ c.in_ok-spot.was in
     closing_more c.loop-v.invariant e c.if-v-eq-POS_END.false f

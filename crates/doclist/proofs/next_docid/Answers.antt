@@ -1,15 +1,10 @@
--- `next_docid` meets its contract: each test of the code is the test of `next_docid_of`.
-use Prim.Native.Nat.{◌-◌}
-use native.Mathlib.Omega.{arith}
-use borrow.Author.Tests.{lt-ltb, le-ltb, eq-eqb, ne_eqb}
-use Rattle.doclist.specs.Docid.{docid_limit}
+-- `next_docid` meets its contract: it opens the entry of the later docid.
+use mathlib.Core.Path.{sym, ap, ◌∙◌}
+use Rattle.doclist.proofs.Steps.{begun, docid_begins}
 use Rattle.doclist.proofs.next_docid.Goals as goal
 
-pub returns-then-v-eq0 : goal.returns-then-v-eq0
-returns-then-v-eq0 c = simp (eq-eqb _ _ c.if-v-eq0.true)
+pub returns-in-None : goal.returns-in-None
+returns-in-None c = let a = c.args in ap begun (sym c.in-None.is ∙ c.later_docid.ensures) ∙ docid_begins a.docid a.v
 
-pub returns-then-docid-v : goal.returns-then-docid-v
-returns-then-docid-v c = let a = c.args in simp (ne_eqb _ _ c.if-v-eq0.false, le-ltb a.v (docid_limit - a.docid) (omega arith))
-
-pub returns : goal.returns
-returns c = let a = c.args in simp (ne_eqb _ _ c.if-v-eq0.false, lt-ltb a.v (docid_limit - a.docid) (omega arith))
+pub returns-in-Some : goal.returns-in-Some
+returns-in-Some c = let a = c.args in ap begun (sym c.in-Some.is ∙ c.later_docid.ensures) ∙ docid_begins a.docid a.v

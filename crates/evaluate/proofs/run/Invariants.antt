@@ -1,6 +1,5 @@
--- `run` meets its contract. The loop's invariant: the codes that are left, run on the stack, give the tree (`Running`). The measure
--- is the number of codes that are left.
-use Prim.Native.Nat.{ℕ, ◌-◌}
+-- `run` meets its contract. The loop's invariant: the codes that are left, run on the stack, give the tree (`Running`).
+use Prim.Native.Nat.{ℕ}
 use mathlib.Core.Path.{◌≡◌}
 use mathlib.Core.List.{List}
 use lib.ListN.{length}
@@ -12,8 +11,5 @@ use Rattle.evaluate.specs.Evaluate.{Fit}
 use Rattle.evaluate.proofs.Running.{Running}
 use Rattle.evaluate.proofs.run.Given as goal
 
-abbrev pub invariant-loop-i : goal.invariant-loop-i
-invariant-loop-i l = (length l.marks ≡ length l.initial.marks) × (length l.spare ≡ length l.initial.spare) × ((tree : Tree) (hits : List Hit) (live : Live) (docid : ℕ) → Fit tree → TiesAre (tree_nodes tree) l.ties l.distances l.columns → l.codes ≡ postfix tree → RowFits l.leaves l.starts l.masks hits → Agrees (StandsAt live docid) (tree_nodes tree) hits → MarkRoom l.initial.marks l.initial.spare → Running tree live docid l.codes l.stack l.word l.i) × RoomsKept l.initial.marks l.marks l.initial.spare l.spare
-
-abbrev pub decreases-loop-i : goal.decreases-loop-i
-decreases-loop-i l = length l.codes - l.i
+abbrev pub invariant-loop-code : goal.invariant-loop-code
+invariant-loop-code l = (length l.marks ≡ length l.initial.marks) × (length l.spare ≡ length l.initial.spare) × ((tree : Tree) (hits : List Hit) (live : Live) (docid : ℕ) → Fit tree → TiesAre (tree_nodes tree) l.words.ties.now l.words.distances.now l.words.columns.now → l.codes ≡ postfix tree → RowFits l.row.leaves.now l.row.starts.now l.row.masks.now hits → Agrees (StandsAt live docid) (tree_nodes tree) hits → MarkRoom l.initial.marks l.initial.spare → Running tree live docid l.codes l.stack l.word l.code-index) × RoomsKept l.initial.marks l.marks l.initial.spare l.spare

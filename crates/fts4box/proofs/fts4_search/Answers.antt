@@ -7,5 +7,5 @@ pub returns : goal.returns
 returns c = record {
   answer = c.search-answer.result;
   right = c.search-answer.ensures;
-  numbers_are = ap₂ numbers c.search_number.ensures c.search_second.ensures;
+  numbers_are = ap₂ numbers c.number.ensures c.second.ensures;
 }

@@ -11,12 +11,12 @@ pub returns : goal.returns
 returns c = let a = c.args in
     let same = to_z-of_z c.ranges.docid in
     record {
-      answer = c.write-answer.result;
+      answer = c.write-written.result;
       right =
-          subst (λ (z : ℤ). writer.WriteIs z a.texts.now a.ends.now (length a.room.now) c.write-answer.result) same ((c.write-answer.ensures.exact c.write-answer.result).0 refl);
+          subst (λ (z : ℤ). writer.WriteIs z a.texts.now a.ends.now (length a.room.now) c.write-written.result) same ((c.write-written.ensures.exact c.write-written.result).0 refl);
       answer_is =
-          subst (λ (z : ℤ). c.write-answer.result ≡ writer.answer_of z a.texts.now a.ends.now (length a.room.now)) same c.write-answer.ensures.answer;
+          subst (λ (z : ℤ). c.write-written.result ≡ writer.answer_of z a.texts.now a.ends.now (length a.room.now)) same c.write-written.ensures.answer;
       room_is =
-          subst (λ (z : ℤ). c.write-answer.new.room ≡ writer.room_of z a.texts.now a.ends.now (length a.room.now)) same c.write-answer.ensures.holds;
-      numbers_are = ap₂ numbers c.write_number.ensures c.write_second.ensures;
+          subst (λ (z : ℤ). c.write-written.new.room ≡ writer.room_of z a.texts.now a.ends.now (length a.room.now)) same c.write-written.ensures.holds;
+      numbers_are = ap₂ numbers c.number.ensures c.second.ensures;
     }

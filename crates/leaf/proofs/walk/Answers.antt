@@ -45,10 +45,10 @@ returns-in_default-head_at c =
     let both = walked _ s small (c.front.ensures ∙ sym (w.goes_on ∙ ap front_of (no_head _ s l.i _ _ w.fuel w.enough c.loop-i-test.true e))) in
     record { reader = both.0; content = both.1 }
 
-pub bounds-s-from : goal.bounds-s-from
-bounds-s-from c = let s : List ℕ = c.args.s.now in
+pub bounds-s-head : goal.bounds-s-head
+bounds-s-head c = let s : List ℕ = c.args.s.now in
     let l = c.loop-i in
-    let e = sym c.head_at.ensures ∙ c.in-Found.is in
+    let e = sym c.head_at.ensures ∙ c.in-Some.is in
     let t = head_sound s l.i e in
     omega arith
 
@@ -62,7 +62,7 @@ returns-then-not-joins c =
     let small : length s < 2 ^ 63 = omega (arith, c.well_formed.0.1) in
     let l = c.loop-i in
     let w = l.invariant.2 in
-    let e = sym c.head_at.ensures ∙ c.in-Found.is in
+    let e = sym c.head_at.ensures ∙ c.in-Some.is in
     let j = sym c.joins.ensures ∙ not-true _ c.if-not-joins.true-raw in
     let both = walked _ s small (c.front-then-not-joins.ensures ∙ sym (w.goes_on ∙ ap front_of (no_join _ s l.i _ _ c.loop-i-test.true e w.fuel w.enough j))) in
     record { reader = both.0; content = both.1 }
@@ -70,21 +70,21 @@ returns-then-not-joins c =
 pub slice_bounds-check-count : goal.slice_bounds-check-count
 slice_bounds-check-count c = let s : List ℕ = c.args.s.now in
     let l = c.loop-i in
-    let e = sym c.head_at.ensures ∙ c.in-Found.is in
+    let e = sym c.head_at.ensures ∙ c.in-Some.is in
     let t = head_sound s l.i e in
     omega arith
 
 pub slice_bounds-check-start : goal.slice_bounds-check-start
 slice_bounds-check-start c = let s : List ℕ = c.args.s.now in
     let l = c.loop-i in
-    let e = sym c.head_at.ensures ∙ c.in-Found.is in
+    let e = sym c.head_at.ensures ∙ c.in-Some.is in
     let t = head_sound s l.i e in
     omega arith
 
 pub slice_bounds-check-end : goal.slice_bounds-check-end
 slice_bounds-check-end c = let s : List ℕ = c.args.s.now in
     let l = c.loop-i in
-    let e = sym c.head_at.ensures ∙ c.in-Found.is in
+    let e = sym c.head_at.ensures ∙ c.in-Some.is in
     let t = head_sound s l.i e in
     omega arith
 
@@ -94,7 +94,7 @@ returns-in_default-check c =
     let small : length s < 2 ^ 63 = omega (arith, c.well_formed.0.1) in
     let l = c.loop-i in
     let w = l.invariant.2 in
-    let e = sym c.head_at.ensures ∙ c.in-Found.is in
+    let e = sym c.head_at.ensures ∙ c.in-Some.is in
     let j = sym c.joins.ensures ∙ not-false _ c.if-not-joins.false-raw in
     let a = sym c.check.ensures.reader ∙ c.in_default-check.is in
     let both = walked _ s small (c.front-in_default-check.ensures ∙ sym (w.goes_on ∙ ap front_of (no_list _ s l.i _ _ c.loop-i-test.true e w.fuel w.enough j a))) in
@@ -103,7 +103,7 @@ returns-in_default-check c =
 pub overflow_add-to : goal.overflow_add-to
 overflow_add-to c = let s : List ℕ = c.args.s.now in
     let l = c.loop-i in
-    let e = sym c.head_at.ensures ∙ c.in-Found.is in
+    let e = sym c.head_at.ensures ∙ c.in-Some.is in
     let t = head_sound s l.i e in
     omega (arith, c.well_formed.0.0)
 
@@ -113,28 +113,28 @@ slice_bounds-put_suffix-end c = sym c.loop-i.invariant.1
 pub slice_bounds-put_suffix-count : goal.slice_bounds-put_suffix-count
 slice_bounds-put_suffix-count c = let s : List ℕ = c.args.s.now in
     let l = c.loop-i in
-    let e = sym c.head_at.ensures ∙ c.in-Found.is in
+    let e = sym c.head_at.ensures ∙ c.in-Some.is in
     let t = head_sound s l.i e in
     omega arith
 
 pub slice_bounds-put_suffix-start : goal.slice_bounds-put_suffix-start
 slice_bounds-put_suffix-start c = let s : List ℕ = c.args.s.now in
     let l = c.loop-i in
-    let e = sym c.head_at.ensures ∙ c.in-Found.is in
+    let e = sym c.head_at.ensures ∙ c.in-Some.is in
     let t = head_sound s l.i e in
     omega arith
 
 pub slice_bounds-put_suffix-end-in-loop-i : goal.slice_bounds-put_suffix-end-in-loop-i
 slice_bounds-put_suffix-end-in-loop-i c = let s : List ℕ = c.args.s.now in
     let l = c.loop-i in
-    let e = sym c.head_at.ensures ∙ c.in-Found.is in
+    let e = sym c.head_at.ensures ∙ c.in-Some.is in
     let t = head_sound s l.i e in
     omega arith
 
 pub overflow_add-len : goal.overflow_add-len
 overflow_add-len c = let s : List ℕ = c.args.s.now in
     let l = c.loop-i in
-    let e = sym c.head_at.ensures ∙ c.in-Found.is in
+    let e = sym c.head_at.ensures ∙ c.in-Some.is in
     let t = head_sound s l.i e in
     omega arith
 
@@ -147,7 +147,7 @@ overflow_add-words c = let s : List ℕ = c.args.s.now in
 pub loop-i-smaller : goal.loop-i-smaller
 loop-i-smaller c = let s : List ℕ = c.args.s.now in
     let l = c.loop-i in
-    let e = sym c.head_at.ensures ∙ c.in-Found.is in
+    let e = sym c.head_at.ensures ∙ c.in-Some.is in
     let t = head_sound s l.i e in
     omega (arith, c.loop-i-test.true)
 
@@ -155,13 +155,13 @@ pub loop-i-preserved : goal.loop-i-preserved
 loop-i-preserved c = let s : List ℕ = c.args.s.now in
     let l = c.loop-i in
     let w = l.invariant.2 in
-    let e = sym c.head_at.ensures ∙ c.in-Found.is in
+    let e = sym c.head_at.ensures ∙ c.in-Some.is in
     let t = head_sound s l.i e in
     let j = sym c.joins.ensures ∙ not-false _ c.if-not-joins.false-raw in
     let a = sym c.check.ensures.reader ∙ c.in-Accepted.is in
-    let q = part_length s c.in-Found.from (c.in-Found.from + c.in-Found.size) (omega arith) in
-    let put = c.put_suffix.ensures ∙ suffix_fits l.word (part s c.in-Found.from (c.in-Found.from + c.in-Found.size)) c.in-Found.prefix (omega (arith, l.invariant.1)) in
-    (omega arith, paste_length _ l.word (part s c.in-Found.from (c.in-Found.from + c.in-Found.size)) c.in-Found.prefix put (omega (arith, l.invariant.1)) ∙ l.invariant.1, walking_more l.len l.word _ w (omega (arith, l.invariant.0, l.invariant.1)) c.loop-i-test.true e j a put)
+    let q = part_length s c.in-Some.head.from (c.in-Some.head.from + c.in-Some.head.size) (omega arith) in
+    let put = c.put_suffix.ensures ∙ suffix_fits l.word (part s c.in-Some.head.from (c.in-Some.head.from + c.in-Some.head.size)) c.in-Some.head.prefix (omega (arith, l.invariant.1)) in
+    (omega arith, paste_length _ l.word (part s c.in-Some.head.from (c.in-Some.head.from + c.in-Some.head.size)) c.in-Some.head.prefix put (omega (arith, l.invariant.1)) ∙ l.invariant.1, walking_more l.len l.word _ w (omega (arith, l.invariant.0, l.invariant.1)) c.loop-i-test.true e j a put)
 
 pub returns : goal.returns
 returns c =

@@ -5,26 +5,26 @@ use lib.ListN.{get_or}
 use Rattle.lexer.proofs.Numbers.{digit_at, below_none, below_more, below_four, decimal_more, decimal_end}
 use Rattle.lexer.proofs.decimal_of.Goals as goal
 
-pub loop-i-init : goal.loop-i-init
-loop-i-init c = (omega arith, below_none, refl)
+pub loop-d-init : goal.loop-d-init
+loop-d-init c = (below_none, refl)
 
-pub overflow_sub-d : goal.overflow_sub-d
-overflow_sub-d c = (digit_at c.args.s.now c.loop-i.i c.requires.1 c.loop-i-test.true).low
+pub overflow_sub-n : goal.overflow_sub-n
+overflow_sub-n c = (digit_at c.args.s.now c.loop-d.d-index c.requires.1 c.loop-d-test.true).low
 
 pub overflow_mul-n : goal.overflow_mul-n
-overflow_mul-n c = let l = c.loop-i in omega (arith, below_four l.i (omega arith))
+overflow_mul-n c = let l = c.loop-d in omega (arith, below_four l.d-index (omega arith))
 
 pub overflow_cast-n : goal.overflow_cast-n
-overflow_cast-n c = omega (arith, c.type_inv.s c.loop-i.i)
+overflow_cast-n c = omega (arith, c.type_inv.s c.loop-d.d-index)
 
 pub overflow_add-n : goal.overflow_add-n
-overflow_add-n c = let l = c.loop-i in omega (arith, below_four l.i (omega arith), (digit_at c.args.s.now l.i c.requires.1 c.loop-i-test.true).high)
+overflow_add-n c = let l = c.loop-d in omega (arith, below_four l.d-index (omega arith), (digit_at c.args.s.now l.d-index c.requires.1 c.loop-d-test.true).high)
 
-pub loop-i-preserved : goal.loop-i-preserved
-loop-i-preserved c = let l = c.loop-i in
+pub loop-d-preserved : goal.loop-d-preserved
+loop-d-preserved c = let l = c.loop-d in
     let s = c.args.s.now in
-    let h = c.loop-i-test.true in
-    (omega arith, below_more l.i l.n (get_or s l.i 0) l.invariant.1 (digit_at s l.i c.requires.1 h), l.invariant.2 ∙ decimal_more s l.i l.n h)
+    let h = c.loop-d-test.true in
+    (below_more l.d-index l.n (get_or s l.d-index 0) l.invariant.0 (digit_at s l.d-index c.requires.1 h), l.invariant.1 ∙ decimal_more s l.d-index l.n h)
 
 pub returns : goal.returns
-returns c = let l = c.loop-i in sym (l.invariant.2 ∙ decimal_end c.args.s.now l.i l.n c.loop-i-test.false)
+returns c = let l = c.loop-d in sym (l.invariant.1 ∙ decimal_end c.args.s.now l.d-index l.n c.loop-d-test.false)

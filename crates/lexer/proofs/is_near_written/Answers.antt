@@ -1,22 +1,14 @@
--- The function meets its contract: each return is the test that led there.
-use native.Mathlib.Omega.{arith}
-use mathlib.Core.Path.{sym, ◌∙◌}
-use lib.Seq.{length-take-le}
-use borrow.Author.Tests.{not-true, not-false}
-use Rattle.lexer.proofs.RunSteps.{near_short, near_long, near_other, near_digits}
+-- The function meets its contract: where the tests before pass, all other bytes are digits exactly if the stretch is the rest.
+use Rattle.std.proofs.Common.{rules}
+use mathlib.Core.Path.{sym, ap, ◌∙◌}
+use lib.ListN.{length, length-drop}
+use lib.Dec.{eqb}
+use Rattle.common.proofs.Parts.{part_all}
+use Rattle.tokenizer.specs.Word.{is_digit}
+use Rattle.lexer.proofs.RunSteps.{near_digits}
 use Rattle.lexer.proofs.is_near_written.Goals as goal
 
-pub returns-then-s-lt-MIN_NEAR : goal.returns-then-s-lt-MIN_NEAR
-returns-then-s-lt-MIN_NEAR c = near_short c.args.s.now c.if-s-lt-MIN_NEAR.true
-
-pub returns-then-s-gt-MAX_NEAR : goal.returns-then-s-gt-MAX_NEAR
-returns-then-s-gt-MAX_NEAR c = near_long c.args.s.now c.if-s-lt-MIN_NEAR.false c.if-s-gt-MAX_NEAR.true
-
-pub slice_bounds-is_same-end : goal.slice_bounds-is_same-end
-slice_bounds-is_same-end c = sym (length-take-le 5 c.args.s.now (omega arith))
-
-pub returns-then-not-is_same : goal.returns-then-not-is_same
-returns-then-not-is_same c = near_other c.args.s.now c.if-s-lt-MIN_NEAR.false c.if-s-gt-MAX_NEAR.false (sym c.is_same.ensures ∙ not-true c.is_same.result c.if-not-is_same.true-raw)
-
-pub returns : goal.returns
-returns c = near_digits c.args.s.now c.stretch.result c.if-s-lt-MIN_NEAR.false c.if-s-gt-MAX_NEAR.false (sym c.is_same.ensures ∙ not-false c.is_same.result c.if-not-is_same.false-raw) c.stretch.ensures
+pub returns-then-is_same : goal.returns-then-is_same
+returns-then-is_same c = let s = c.args.s.now in
+    ap (eqb c.stretch.result) (sym (ap length (part_all s 5) ∙ length-drop 5 s))
+    ∙ near_digits s c.stretch.result (search rules) (search rules) (search rules) (c.stretch.ensures is_digit (λ b r l e. e))

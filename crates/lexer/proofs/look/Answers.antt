@@ -3,6 +3,7 @@ use native.Mathlib.Omega.{arith}
 use mathlib.Core.Path.{◌∙◌}
 use Rattle.lexer.proofs.LexSteps.{run_length, run_fits, ahead_none, ahead_open, ahead_close, ahead_quote, ahead_word}
 use Rattle.lexer.proofs.Places.{look_answers}
+use Rattle.lexer.specs.Tokens.{is_run_byte}
 use Rattle.lexer.proofs.look.Goals as goal
 
 pub returns-then-s-from : goal.returns-then-s-from
@@ -40,11 +41,11 @@ returns-then-b-eq34 c =
 
 pub slice_bounds-operator_of-end : goal.slice_bounds-operator_of-end
 slice_bounds-operator_of-end c = let n = c.stretch-n in
-    run_length c.args.s.now c.skip-from.result n.result n.ensures
+    run_length c.args.s.now c.skip-from.result n.result (n.ensures is_run_byte (λ b r l e. e))
 
 pub overflow_add-from-2 : goal.overflow_add-from-2
 overflow_add-from-2 c = let n = c.stretch-n in
-    omega (arith, run_fits c.args.s.now c.skip-from.result n.result n.ensures c.if-s-from.false, c.well_formed.0.1)
+    omega (arith, run_fits c.args.s.now c.skip-from.result n.result (n.ensures is_run_byte (λ b r l e. e)) c.if-s-from.false, c.well_formed.0.1)
 
 pub returns : goal.returns
 returns c =
@@ -53,5 +54,5 @@ returns c =
     let n = c.stretch-n in
     let both = look_answers a.s.now a.at
     (c.with_end-2.ensures
-    ∙ ahead_word a.s.now a.at k.result k.ensures c.operator_of.result c.if-s-from.false c.if-b-eq40.false c.if-b-eq41.false c.if-b-eq34.false n.result n.ensures c.operator_of.ensures) in
+    ∙ ahead_word a.s.now a.at k.result k.ensures c.operator_of.result c.if-s-from.false c.if-b-eq40.false c.if-b-eq41.false c.if-b-eq34.false n.result (n.ensures is_run_byte (λ b r l e. e)) c.operator_of.ensures) in
     record { reader = both.0; meaning = both.1 }

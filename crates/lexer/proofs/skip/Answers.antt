@@ -1,22 +1,22 @@
--- `skip` meets its contract: the goals that tactics leave open. What its loops keep stands in Invariants.antt.
-use mathlib.Core.Path.{refl, sym, ◌∙◌}
-use borrow.Author.Tests.{not-true, not-false}
-use Rattle.common.proofs.Runs.{past_end, past_stop, past_more}
+-- `skip` meets its contract: past the end there is no white space, and else a stretch of it is measured.
+use native.Mathlib.Omega.{arith}
+use mathlib.Core.Path.{sym, ap, ◌∙◌}
+use Rattle.std.specs.Prelude.{◌+◌, ◌-◌}
+use lib.ListN.{length, take, drop, length-drop}
+use Rattle.common.specs.Bytes.{span}
+use Rattle.common.proofs.Parts.{part_all}
+use Rattle.common.proofs.Runs.{span_most, past_end}
 use Rattle.lexer.specs.Tokens.{is_space}
 use Rattle.lexer.proofs.skip.Goals as goal
 
-pub loop-i-init : goal.loop-i-init
-loop-i-init c = refl
+pub returns-then-s-at : goal.returns-then-s-at
+returns-then-s-at c = sym (past_end is_space c.args.s.now c.args.at c.if-s-at.true)
 
-pub returns-then-not-is_space : goal.returns-then-not-is_space
-returns-then-not-is_space c = let a = c.args in
-    let l = c.loop-i in
-    sym (l.invariant ∙ past_stop is_space a.s.now l.i c.loop-i-test.true (sym c.is_space.ensures ∙ not-true c.is_space.result c.if-not-is_space.true-raw))
-
-pub loop-i-preserved : goal.loop-i-preserved
-loop-i-preserved c = let a = c.args in
-    let l = c.loop-i in
-    l.invariant ∙ past_more is_space a.s.now l.i c.loop-i-test.true (sym c.is_space.ensures ∙ not-false c.is_space.result c.if-not-is_space.false-raw)
+pub overflow_add-result : goal.overflow_add-result
+overflow_add-result c = let a = c.args in
+    let n = c.stretch.ensures is_space (λ b r l e. e) in
+    omega (arith, n, span_most is_space (take (length a.s.now - a.at) (drop a.at a.s.now)), ap length (part_all a.s.now a.at), length-drop a.at a.s.now, c.well_formed.0.1)
 
 pub returns : goal.returns
-returns c = sym (c.loop-i.invariant ∙ past_end is_space c.args.s.now c.loop-i.i c.loop-i-test.false)
+returns c = let a = c.args in
+    ap (λ n. a.at + n) (c.stretch.ensures is_space (λ b r l e. e) ∙ ap (span is_space) (part_all a.s.now a.at))

@@ -32,35 +32,35 @@ returns-in_default-head_at c = let s : List ℕ = c.args.leaf.now in
 pub overflow_add-read : goal.overflow_add-read
 overflow_add-read c = let s : List ℕ = c.args.leaf.now in
     let l = c.loop-i in
-    let e = sym c.head_at.ensures ∙ c.in-Found.is in
+    let e = sym c.head_at.ensures ∙ c.in-Some.is in
     let t = head_sound s l.i e in
     omega (arith, l.invariant.1, l.invariant.2, t.after, t.inside, t.some, t.ends, t.within, c.well_formed.0.1)
 
 pub overflow_add-to : goal.overflow_add-to
 overflow_add-to c = let s : List ℕ = c.args.leaf.now in
     let l = c.loop-i in
-    let e = sym c.head_at.ensures ∙ c.in-Found.is in
+    let e = sym c.head_at.ensures ∙ c.in-Some.is in
     let t = head_sound s l.i e in
     omega (arith, c.well_formed.0.0)
 
 pub slice_bounds-stands-count : goal.slice_bounds-stands-count
 slice_bounds-stands-count c = let s : List ℕ = c.args.leaf.now in
     let l = c.loop-i in
-    let e = sym c.head_at.ensures ∙ c.in-Found.is in
+    let e = sym c.head_at.ensures ∙ c.in-Some.is in
     let t = head_sound s l.i e in
     omega arith
 
 pub slice_bounds-stands-start : goal.slice_bounds-stands-start
 slice_bounds-stands-start c = let s : List ℕ = c.args.leaf.now in
     let l = c.loop-i in
-    let e = sym c.head_at.ensures ∙ c.in-Found.is in
+    let e = sym c.head_at.ensures ∙ c.in-Some.is in
     let t = head_sound s l.i e in
     omega arith
 
 pub slice_bounds-stands-end : goal.slice_bounds-stands-end
 slice_bounds-stands-end c = let s : List ℕ = c.args.leaf.now in
     let l = c.loop-i in
-    let e = sym c.head_at.ensures ∙ c.in-Found.is in
+    let e = sym c.head_at.ensures ∙ c.in-Some.is in
     let t = head_sound s l.i e in
     omega arith
 
@@ -70,7 +70,7 @@ stands-requires c = c.loop-i.invariant.0
 pub overflow_sub-result : goal.overflow_sub-result
 overflow_sub-result c = let s : List ℕ = c.args.leaf.now in
     let l = c.loop-i in
-    let e = sym c.head_at.ensures ∙ c.in-Found.is in
+    let e = sym c.head_at.ensures ∙ c.in-Some.is in
     let t = head_sound s l.i e in
     omega arith
 
@@ -79,7 +79,7 @@ returns-in-Equal c = let s : List ℕ = c.args.leaf.now in
     let w : List ℕ = c.args.word.now in
     let small : length s < 2 ^ 63 = omega (arith, c.well_formed.0.1) in
     let l = c.loop-i in
-    let e = sym c.head_at.ensures ∙ c.in-Found.is in
+    let e = sym c.head_at.ensures ∙ c.in-Some.is in
     let h = c.loop-i-test.true in
     λ columns ts g. seeking_found columns s w ts l.read l.numbers l.same l.i small (l.invariant.3 columns ts g) h e _ c.stands.ensures.order g.bytes c.in-Equal.is
 
@@ -88,14 +88,14 @@ returns-in-Greater c = let s : List ℕ = c.args.leaf.now in
     let w : List ℕ = c.args.word.now in
     let small : length s < 2 ^ 63 = omega (arith, c.well_formed.0.1) in
     let l = c.loop-i in
-    let e = sym c.head_at.ensures ∙ c.in-Found.is in
+    let e = sym c.head_at.ensures ∙ c.in-Some.is in
     let h = c.loop-i-test.true in
     λ columns ts g. seeking_behind columns s w ts l.read l.numbers l.same l.i small (l.invariant.3 columns ts g) h e _ c.stands.ensures.order c.in-Greater.is
 
 pub loop-i-smaller : goal.loop-i-smaller
 loop-i-smaller c = let s : List ℕ = c.args.leaf.now in
     let l = c.loop-i in
-    let e = sym c.head_at.ensures ∙ c.in-Found.is in
+    let e = sym c.head_at.ensures ∙ c.in-Some.is in
     let t = head_sound s l.i e in
     let h = c.loop-i-test.true in
     omega arith
@@ -105,7 +105,7 @@ loop-i-preserved c = let s : List ℕ = c.args.leaf.now in
     let w : List ℕ = c.args.word.now in
     let small : length s < 2 ^ 63 = omega (arith, c.well_formed.0.1) in
     let l = c.loop-i in
-    let e = sym c.head_at.ensures ∙ c.in-Found.is in
+    let e = sym c.head_at.ensures ∙ c.in-Some.is in
     let h = c.loop-i-test.true in
     let t = head_sound s l.i e in (
       subst (SharedMost (length w)) c.in-Less.is c.stands.ensures.most,

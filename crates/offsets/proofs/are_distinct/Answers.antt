@@ -12,15 +12,15 @@ pub returns-then-not-differs_from_later : goal.returns-then-not-differs_from_lat
 returns-then-not-differs_from_later c = let s = c.args.s.now in
     let es = c.args.ends.now in
     let e = sym c.differs_from_later.ensures ∙ not-true _ c.if-not-differs_from_later.true-raw in
-    every_fails distinct_test (cut s es) c.loop-i.i (in_cut s es c.loop-i.i (omega arith)) e ∙ c.loop-i.invariant.1
+    every_fails distinct_test (cut s es) c.loop-i.i (in_cut s es c.loop-i.i (omega arith)) e ∙ c.loop-i.invariant
 
 pub loop-i-preserved : goal.loop-i-preserved
 loop-i-preserved c = let s = c.args.s.now in
     let es = c.args.ends.now in
     let e = sym c.differs_from_later.ensures ∙ not-false _ c.if-not-differs_from_later.false-raw in
-    (omega arith, every_next distinct_test (cut s es) c.loop-i.i (in_cut s es c.loop-i.i (omega arith)) e ∙ c.loop-i.invariant.1)
+    every_next distinct_test (cut s es) c.loop-i.i (in_cut s es c.loop-i.i (omega arith)) e ∙ c.loop-i.invariant
 
 pub returns : goal.returns
 returns c = let s = c.args.s.now in
     let es = c.args.ends.now in
-    every_end distinct_test (cut s es) c.loop-i.i (past_cut s es c.loop-i.i (omega arith)) ∙ c.loop-i.invariant.1
+    every_end distinct_test (cut s es) c.loop-i.i (past_cut s es c.loop-i.i (omega arith)) ∙ c.loop-i.invariant

@@ -13,15 +13,15 @@ pub returns-then-not-is_name : goal.returns-then-not-is_name
 returns-then-not-is_name c = let s = c.args.s.now in
     let es = c.args.ends.now in
     let e = ap is_name (sym c.part.ensures) ∙ sym c.is_name.ensures ∙ not-true _ c.if-not-is_name.true-raw in
-    every_fails name_test (cut s es) c.loop-i.i (in_cut s es c.loop-i.i (omega arith)) e ∙ c.loop-i.invariant.1
+    every_fails name_test (cut s es) c.loop-i.i (in_cut s es c.loop-i.i (omega arith)) e ∙ c.loop-i.invariant
 
 pub loop-i-preserved : goal.loop-i-preserved
 loop-i-preserved c = let s = c.args.s.now in
     let es = c.args.ends.now in
     let e = ap is_name (sym c.part.ensures) ∙ sym c.is_name.ensures ∙ not-false _ c.if-not-is_name.false-raw in
-    (omega arith, every_next name_test (cut s es) c.loop-i.i (in_cut s es c.loop-i.i (omega arith)) e ∙ c.loop-i.invariant.1)
+    every_next name_test (cut s es) c.loop-i.i (in_cut s es c.loop-i.i (omega arith)) e ∙ c.loop-i.invariant
 
 pub returns : goal.returns
 returns c = let s = c.args.s.now in
     let es = c.args.ends.now in
-    every_end name_test (cut s es) c.loop-i.i (past_cut s es c.loop-i.i (omega arith)) ∙ c.loop-i.invariant.1
+    every_end name_test (cut s es) c.loop-i.i (past_cut s es c.loop-i.i (omega arith)) ∙ c.loop-i.invariant

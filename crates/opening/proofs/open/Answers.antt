@@ -1,6 +1,5 @@
 -- `open` meets its contract: the goals that tactics leave open. What its loops keep stands in Invariants.antt.
 use Rattle.common.proofs.Cases.{false_not_true}
-use borrow.Author.Tests.{not-true, not-false}
 use Rattle.opening.specs.Opening.{Arrays, arrays, OpenFrame}
 use Rattle.opening.proofs.Framing.{not_opened, frame_none}
 use Rattle.opening.proofs.Taking.{able_as, frame_lengths, lengths_back}
@@ -13,16 +12,16 @@ pub returns-then-not-is_able : goal.returns-then-not-is_able
 returns-then-not-is_able c = record {
   content =
       λ nodes columns terms w h r rooms.
-      false_not_true (sym (not-true _ c.if-not-is_able.true-raw) ∙ c.is_able.ensures.1 (h.cuts, h.few, h.small, rooms.0, rooms.1, rooms.2, rooms.3));
+      false_not_true (sym c.if-not-is_able.true ∙ c.is_able.ensures.1 (h.cuts, h.few, h.small, rooms.0, rooms.1, rooms.2, rooms.3));
   otherwise = λ o. record { answer = refl; same = refl };
   frame = frame_none _ _;
 }
 
 pub fronts_of-fronts-requires : goal.fronts_of-fronts-requires
-fronts_of-fronts-requires c = let k = c.is_able.ensures.0 (not-false _ c.if-not-is_able.false-raw) in (k.0, k.1, k.2)
+fronts_of-fronts-requires c = let k = c.is_able.ensures.0 c.if-not-is_able.false in (k.0, k.1, k.2)
 
-pub loop-fronts-init : goal.loop-fronts-init
-loop-fronts-init c = let k = c.is_able.ensures.0 (not-false _ c.if-not-is_able.false-raw) in
+pub loop-best-init : goal.loop-best-init
+loop-best-init c = let k = c.is_able.ensures.0 c.if-not-is_able.false in
     let a = c.args in (
       record {
         openable = record { cuts = k.0; few = k.1; small = k.2; rooms = (k.3, k.4, k.5, k.6) };
@@ -34,65 +33,29 @@ loop-fronts-init c = let k = c.is_able.ensures.0 (not-false _ c.if-not-is_able.f
       frame_none _ _,
     )
 
-pub least-best-requires : goal.least-best-requires
-least-best-requires c = (c.loop-fronts.invariant.0.openable.few, λ j h. (c.loop-fronts.invariant.0.placed j h).sized)
+pub least-requires : goal.least-requires
+least-requires c = (c.loop-best.invariant.0.openable.few, λ j h. (c.loop-best.invariant.0.placed j h).sized)
 
-pub shape_of-docids-then-order-best : goal.shape_of-docids-then-order-best
-shape_of-docids-then-order-best c = c.loop-fronts.invariant.2.docids_kept.size
-
-pub shape_of-bodies-then-order-best : goal.shape_of-bodies-then-order-best
-shape_of-bodies-then-order-best c = c.loop-fronts.invariant.2.bodies_kept.size
-
-pub shape_of-lasts-then-order-best : goal.shape_of-lasts-then-order-best
-shape_of-lasts-then-order-best c = c.loop-fronts.invariant.2.lasts_kept.size
-
-pub shape_of-masks-then-order-best : goal.shape_of-masks-then-order-best
-shape_of-masks-then-order-best c = c.loop-fronts.invariant.2.masks_kept.size
-
-pub shape_of-follows-then-order-best : goal.shape_of-follows-then-order-best
-shape_of-follows-then-order-best c = c.loop-fronts.invariant.2.follows_kept.size
-
-pub returns-then-order-best : goal.returns-then-order-best
-returns-then-order-best c = let l = c.loop-fronts in
+pub returns : goal.returns
+returns c = let l = c.loop-best in
     let a = c.args in
     let k = l.invariant.0 in
     record {
       content =
           λ nodes columns terms w h r _.
-          going_end nodes columns terms a.leaves.now a.ends.now a.order.now l.fronts (arrays l.docids l.bodies l.lasts l.masks l.follows) l.n c.least-best.result
-          (l.invariant.1 nodes columns terms w h r) c.least-best.ensures h c.if-order-best.true;
+          going_end nodes columns terms a.leaves.bytes.now a.leaves.ends.now a.leaves.order.now l.fronts (arrays l.docids l.bodies l.lasts l.masks l.follows) l.n
+          (l.invariant.1 nodes columns terms w h r) h c.in_default.ensures;
       otherwise = not_opened k.openable;
       frame = l.invariant.2;
     }
 
-pub offset_bounds-fronts-best : goal.offset_bounds-fronts-best
-offset_bounds-fronts-best c = omega (arith, c.loop-fronts.invariant.0.openable.few, c.if-order-best.false)
-
-pub bounds-fronts-best : goal.bounds-fronts-best
-bounds-fronts-best c = omega (arith, c.loop-fronts.invariant.0.openable.few, c.if-order-best.false)
-
 pub take_word-taken-requires : goal.take_word-taken-requires
-take_word-taken-requires c = let l = c.loop-fronts in
+take_word-taken-requires c = let l = c.loop-best in
     let v = l.invariant in
-    (able_as v.0 (frame_lengths v.2), (v.0.placed c.least-best.result c.if-order-best.false).sized)
-
-pub shape_of-docids-then-taken-n : goal.shape_of-docids-then-taken-n
-shape_of-docids-then-taken-n c = c.take_word-taken.auto.docids ∙ c.loop-fronts.invariant.2.docids_kept.size
-
-pub shape_of-bodies-then-taken-n : goal.shape_of-bodies-then-taken-n
-shape_of-bodies-then-taken-n c = c.take_word-taken.auto.bodies ∙ c.loop-fronts.invariant.2.bodies_kept.size
-
-pub shape_of-lasts-then-taken-n : goal.shape_of-lasts-then-taken-n
-shape_of-lasts-then-taken-n c = c.take_word-taken.auto.lasts ∙ c.loop-fronts.invariant.2.lasts_kept.size
-
-pub shape_of-masks-then-taken-n : goal.shape_of-masks-then-taken-n
-shape_of-masks-then-taken-n c = c.take_word-taken.auto.masks ∙ c.loop-fronts.invariant.2.masks_kept.size
-
-pub shape_of-follows-then-taken-n : goal.shape_of-follows-then-taken-n
-shape_of-follows-then-taken-n c = c.take_word-taken.auto.follows ∙ c.loop-fronts.invariant.2.follows_kept.size
+    (able_as v.0 (frame_lengths v.2), (v.0.placed c.in-Some.best c.in-Some.ensures.within).sized)
 
 pub returns-then-taken-n : goal.returns-then-taken-n
-returns-then-taken-n c = let l = c.loop-fronts in
+returns-then-taken-n c = let l = c.loop-best in
     let a = c.args in
     let held : Arrays = arrays c.take_word-taken.new.docids c.take_word-taken.new.bodies c.take_word-taken.new.lasts c.take_word-taken.new.masks c.take_word-taken.new.follows in
     let given : Arrays = arrays a.docids.now a.bodies.now a.lasts.now a.masks.now a.follows.now in
@@ -102,27 +65,27 @@ returns-then-taken-n c = let l = c.loop-fronts in
     record {
       content =
           λ nodes columns terms w h r _.
-          let next = going_next nodes columns terms a.leaves.now a.ends.now a.order.now l.fronts (arrays l.docids l.bodies l.lasts l.masks l.follows) l.n c.least-best.result
-          (l.invariant.1 nodes columns terms w h r) c.least-best.ensures c.if-order-best.false held c.take_word-taken.result h (omega (arith, r, z)) (λ left cs. c.take_word-taken.ensures.content nodes columns left cs w) in
+          let next = going_next nodes columns terms a.leaves.bytes.now a.leaves.ends.now a.leaves.order.now l.fronts (arrays l.docids l.bodies l.lasts l.masks l.follows) l.n
+          (l.invariant.1 nodes columns terms w h r) c.in-Some.best c.in-Some.ensures held c.take_word-taken.result h (omega (arith, r, z)) (λ left cs. c.take_word-taken.ensures.content nodes columns left cs w) in
           absurd (omega (arith, next.0, c.if-taken-n.true));
       otherwise = not_opened v.openable;
       frame =
-          subst (OpenFrame a.leaves.now given held) q
+          subst (OpenFrame a.leaves.bytes.now given held) q
           (c.take_word-taken.ensures.frame given (sym z) l.invariant.2);
     }
 
-pub loop-fronts-smaller : goal.loop-fronts-smaller
-loop-fronts-smaller c = omega (arith, c.if-taken-n.false, c.take_word-taken.ensures.able.0.within, c.loop-fronts.invariant.2.docids_kept.size)
+pub loop-best-smaller : goal.loop-best-smaller
+loop-best-smaller c = omega (arith, c.if-taken-n.false, c.take_word-taken.ensures.able.0.within, c.loop-best.invariant.2.docids_kept.size)
 
-pub loop-fronts-preserved : goal.loop-fronts-preserved
-loop-fronts-preserved c = let l = c.loop-fronts in
+pub loop-best-preserved : goal.loop-best-preserved
+loop-best-preserved c = let l = c.loop-best in
     let a = c.args in
     let held : Arrays = arrays c.take_word-taken.new.docids c.take_word-taken.new.bodies c.take_word-taken.new.lasts c.take_word-taken.new.masks c.take_word-taken.new.follows in
     let given : Arrays = arrays a.docids.now a.bodies.now a.lasts.now a.masks.now a.follows.now in
     let z = frame_lengths l.invariant.2 in (
       able_as c.take_word-taken.ensures.able.0 (lengths_back z),
       λ nodes columns terms w h r.
-          (going_next nodes columns terms a.leaves.now a.ends.now a.order.now l.fronts (arrays l.docids l.bodies l.lasts l.masks l.follows) l.n c.least-best.result
-          (l.invariant.1 nodes columns terms w h r) c.least-best.ensures c.if-order-best.false held c.take_word-taken.result h (omega (arith, r, z.docid_length)) (λ left cs. c.take_word-taken.ensures.content nodes columns left cs w)).1,
+          (going_next nodes columns terms a.leaves.bytes.now a.leaves.ends.now a.leaves.order.now l.fronts (arrays l.docids l.bodies l.lasts l.masks l.follows) l.n
+          (l.invariant.1 nodes columns terms w h r) c.in-Some.best c.in-Some.ensures held c.take_word-taken.result h (omega (arith, r, z.docid_length)) (λ left cs. c.take_word-taken.ensures.content nodes columns left cs w)).1,
       c.take_word-taken.ensures.frame given (sym z.docid_length) l.invariant.2,
     )

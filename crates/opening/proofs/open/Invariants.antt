@@ -11,12 +11,12 @@ use Prim.Native.Nat.{ℕ, ◌+◌, ◌-◌, ◌*◌, ◌<◌}
 use lib.ListN.{length}
 use Rattle.opening.proofs.open.Given as goal
 
-abbrev pub invariant-loop-fronts : goal.invariant-loop-fronts
-invariant-loop-fronts l = let given = arrays l.initial.docids l.initial.bodies l.initial.lasts l.initial.masks l.initial.follows in
+abbrev pub invariant-loop-best : goal.invariant-loop-best
+invariant-loop-best l = let given = arrays l.initial.docids l.initial.bodies l.initial.lasts l.initial.masks l.initial.follows in
     let held = arrays l.docids l.bodies l.lasts l.masks l.follows in
-    Able l.leaves l.ends l.order l.fronts given l.n
-    × ((nodes : List Node) (columns : ℕ) (terms : List (List Term)) → TextIs l.text l.stops l.marks l.count nodes → LeavesAre columns l.leaves l.ends l.order terms → length l.leaves < word_size * (length l.initial.docids + 1) → OpenSoFar nodes columns terms l.leaves l.ends l.order l.fronts held l.n)
-    × OpenFrame l.leaves given held l.n
+    Able l.leaves.bytes.now l.leaves.ends.now l.leaves.order.now l.fronts given l.n
+    × ((nodes : List Node) (columns : ℕ) (terms : List (List Term)) → TextIs l.text.bytes.now l.text.stops.now l.text.marks.now l.text.count nodes → LeavesAre columns l.leaves.bytes.now l.leaves.ends.now l.leaves.order.now terms → length l.leaves.bytes.now < word_size * (length l.initial.docids + 1) → OpenSoFar nodes columns terms l.leaves.bytes.now l.leaves.ends.now l.leaves.order.now l.fronts held l.n)
+    × OpenFrame l.leaves.bytes.now given held l.n
 
-abbrev pub decreases-loop-fronts : goal.decreases-loop-fronts
-decreases-loop-fronts l = length l.initial.docids - l.n
+abbrev pub decreases-loop-best : goal.decreases-loop-best
+decreases-loop-best l = length l.initial.docids - l.n

@@ -19,7 +19,7 @@ loop-at-init c = (search rules, λ nodes columns ts size w r. seeking_start size
 
 pub returns-in_default : goal.returns-in_default
 returns-in_default c = let s = c.args.leaf.now in
-    let small : length s < 2 ^ 63 = omega (arith, c.well_formed.1.1.1.1.0.1) in
+    let small : length s < 2 ^ 63 = omega (arith, c.well_formed.1.0.1) in
     let l = c.loop-at in
     let e = sym c.head_at.ensures ∙ c.in_default.is in (
       placed_none c.no_front.ensures.0 c.no_front.ensures.1,
@@ -30,7 +30,7 @@ returns-in_default c = let s = c.args.leaf.now in
 pub overflow_add-to : goal.overflow_add-to
 overflow_add-to c = let s = c.args.leaf.now in
     let l = c.loop-at in
-    let e = sym c.head_at.ensures ∙ c.in-Found.is in
+    let e = sym c.head_at.ensures ∙ c.in-Some.is in
     let k = head_sound s l.at e in
     omega arith
 
@@ -40,71 +40,71 @@ slice_bounds-put_suffix-end c = sym c.loop-at.invariant.0
 pub slice_bounds-put_suffix-count : goal.slice_bounds-put_suffix-count
 slice_bounds-put_suffix-count c = let s = c.args.leaf.now in
     let l = c.loop-at in
-    let e = sym c.head_at.ensures ∙ c.in-Found.is in
+    let e = sym c.head_at.ensures ∙ c.in-Some.is in
     let k = head_sound s l.at e in
     omega arith
 
 pub slice_bounds-put_suffix-start : goal.slice_bounds-put_suffix-start
 slice_bounds-put_suffix-start c = let s = c.args.leaf.now in
     let l = c.loop-at in
-    let e = sym c.head_at.ensures ∙ c.in-Found.is in
+    let e = sym c.head_at.ensures ∙ c.in-Some.is in
     let k = head_sound s l.at e in
     omega arith
 
 pub slice_bounds-put_suffix-end-in-loop-at : goal.slice_bounds-put_suffix-end-in-loop-at
 slice_bounds-put_suffix-end-in-loop-at c = let s = c.args.leaf.now in
     let l = c.loop-at in
-    let e = sym c.head_at.ensures ∙ c.in-Found.is in
+    let e = sym c.head_at.ensures ∙ c.in-Some.is in
     let k = head_sound s l.at e in
     omega arith
 
 pub overflow_add-n : goal.overflow_add-n
 overflow_add-n c = let s = c.args.leaf.now in
     let l = c.loop-at in
-    let e = sym c.head_at.ensures ∙ c.in-Found.is in
+    let e = sym c.head_at.ensures ∙ c.in-Some.is in
     let k = head_sound s l.at e in
     omega arith
 
 pub slice_bounds-mask_of-count : goal.slice_bounds-mask_of-count
 slice_bounds-mask_of-count c = let s = c.args.leaf.now in
     let l = c.loop-at in
-    let e = sym c.head_at.ensures ∙ c.in-Found.is in
+    let e = sym c.head_at.ensures ∙ c.in-Some.is in
     let k = head_sound s l.at e in
     omega arith
 
 pub slice_bounds-mask_of-start : goal.slice_bounds-mask_of-start
 slice_bounds-mask_of-start c = let s = c.args.leaf.now in
     let l = c.loop-at in
-    let e = sym c.head_at.ensures ∙ c.in-Found.is in
+    let e = sym c.head_at.ensures ∙ c.in-Some.is in
     let k = head_sound s l.at e in
     omega arith
 
 pub slice_bounds-mask_of-end : goal.slice_bounds-mask_of-end
 slice_bounds-mask_of-end c = let s = c.args.leaf.now in
     let l = c.loop-at in
-    let e = sym c.head_at.ensures ∙ c.in-Found.is in
+    let e = sym c.head_at.ensures ∙ c.in-Some.is in
     let k = head_sound s l.at e in
-    let q = part_length s c.in-Found.from (c.in-Found.from + c.in-Found.size) (omega arith) in
-    let put = c.put_suffix.ensures ∙ suffix_fits l.word (part s c.in-Found.from (c.in-Found.from + c.in-Found.size)) c.in-Found.prefix (omega (arith, l.invariant.0)) in
-    let w = paste_length _ l.word (part s c.in-Found.from (c.in-Found.from + c.in-Found.size)) c.in-Found.prefix put (omega (arith, l.invariant.0)) in
+    let q = part_length s c.in-Some.head.from (c.in-Some.head.from + c.in-Some.head.size) (omega arith) in
+    let put = c.put_suffix.ensures ∙ suffix_fits l.word (part s c.in-Some.head.from (c.in-Some.head.from + c.in-Some.head.size)) c.in-Some.head.prefix (omega (arith, l.invariant.0)) in
+    let w = paste_length _ l.word (part s c.in-Some.head.from (c.in-Some.head.from + c.in-Some.head.size)) c.in-Some.head.prefix put (omega (arith, l.invariant.0)) in
     omega (arith, l.invariant.0)
 
 pub front_at-requires : goal.front_at-requires
 front_at-requires c = let s = c.args.leaf.now in
     let l = c.loop-at in
-    let e = sym c.head_at.ensures ∙ c.in-Found.is in
+    let e = sym c.head_at.ensures ∙ c.in-Some.is in
     let k = head_sound s l.at e in
     (omega (arith, c.requires), omega arith, omega arith)
 
 pub returns-then-mask-ne0 : goal.returns-then-mask-ne0
 returns-then-mask-ne0 c = let s = c.args.leaf.now in
     let l = c.loop-at in
-    let e = sym c.head_at.ensures ∙ c.in-Found.is in
+    let e = sym c.head_at.ensures ∙ c.in-Some.is in
     let k = head_sound s l.at e in
-    let n = c.in-Found.prefix + c.in-Found.size in
-    let small : length s < 2 ^ 63 = omega (arith, c.well_formed.1.1.1.1.0.1) in
-    let q = part_length s c.in-Found.from (c.in-Found.from + c.in-Found.size) (omega arith) in
-    let put = c.put_suffix.ensures ∙ suffix_fits l.word (part s c.in-Found.from (c.in-Found.from + c.in-Found.size)) c.in-Found.prefix (omega (arith, l.invariant.0)) in
+    let n = c.in-Some.head.prefix + c.in-Some.head.size in
+    let small : length s < 2 ^ 63 = omega (arith, c.well_formed.1.0.1) in
+    let q = part_length s c.in-Some.head.from (c.in-Some.head.from + c.in-Some.head.size) (omega arith) in
+    let put = c.put_suffix.ensures ∙ suffix_fits l.word (part s c.in-Some.head.from (c.in-Some.head.from + c.in-Some.head.size)) c.in-Some.head.prefix (omega (arith, l.invariant.0)) in
     let z : n - 0 ≡ n = omega arith in (
       c.front_at.ensures.0,
       λ nodes columns ts w r.
@@ -116,21 +116,21 @@ returns-then-mask-ne0 c = let s = c.args.leaf.now in
 pub loop-at-smaller : goal.loop-at-smaller
 loop-at-smaller c = let s = c.args.leaf.now in
     let l = c.loop-at in
-    let e = sym c.head_at.ensures ∙ c.in-Found.is in
+    let e = sym c.head_at.ensures ∙ c.in-Some.is in
     let k = head_sound s l.at e in
     omega (arith, c.loop-at-test.true)
 
 pub loop-at-preserved : goal.loop-at-preserved
 loop-at-preserved c = let s = c.args.leaf.now in
     let l = c.loop-at in
-    let e = sym c.head_at.ensures ∙ c.in-Found.is in
+    let e = sym c.head_at.ensures ∙ c.in-Some.is in
     let k = head_sound s l.at e in
-    let n = c.in-Found.prefix + c.in-Found.size in
-    let small : length s < 2 ^ 63 = omega (arith, c.well_formed.1.1.1.1.0.1) in
+    let n = c.in-Some.head.prefix + c.in-Some.head.size in
+    let small : length s < 2 ^ 63 = omega (arith, c.well_formed.1.0.1) in
     let z : n - 0 ≡ n = omega arith in
-    let q = part_length s c.in-Found.from (c.in-Found.from + c.in-Found.size) (omega arith) in
-    let put = c.put_suffix.ensures ∙ suffix_fits l.word (part s c.in-Found.from (c.in-Found.from + c.in-Found.size)) c.in-Found.prefix (omega (arith, l.invariant.0)) in (
-      paste_length _ l.word (part s c.in-Found.from (c.in-Found.from + c.in-Found.size)) c.in-Found.prefix put (omega (arith, l.invariant.0)) ∙ l.invariant.0,
+    let q = part_length s c.in-Some.head.from (c.in-Some.head.from + c.in-Some.head.size) (omega arith) in
+    let put = c.put_suffix.ensures ∙ suffix_fits l.word (part s c.in-Some.head.from (c.in-Some.head.from + c.in-Some.head.size)) c.in-Some.head.prefix (omega (arith, l.invariant.0)) in (
+      paste_length _ l.word (part s c.in-Some.head.from (c.in-Some.head.from + c.in-Some.head.size)) c.in-Some.head.prefix put (omega (arith, l.invariant.0)) ∙ l.invariant.0,
       λ nodes columns ts size w r.
           seeking_next nodes columns s small (l.invariant.1 nodes columns ts size w r) c.loop-at-test.true e c.put_suffix.new.word put l.invariant.0
           (ap (λ (m : ℕ). mask_of nodes (take m c.put_suffix.new.word)) (sym z) ∙ sym (c.mask_of-mask.ensures nodes w) ∙ c.if-mask-ne0.false),
@@ -138,7 +138,7 @@ loop-at-preserved c = let s = c.args.leaf.now in
 
 pub returns : goal.returns
 returns c = let s = c.args.leaf.now in
-    let small : length s < 2 ^ 63 = omega (arith, c.well_formed.1.1.1.1.0.1) in
+    let small : length s < 2 ^ 63 = omega (arith, c.well_formed.1.0.1) in
     let l = c.loop-at in (
       placed_none c.no_front-2.ensures.0 c.no_front-2.ensures.1,
       λ nodes columns ts w r.

@@ -13,7 +13,7 @@ use Rattle.opening.proofs.seek.Given as goal
 
 abbrev pub invariant-loop-at : goal.invariant-loop-at
 invariant-loop-at l = (length l.word ≡ 64)
-    × ((nodes : List Node) (columns : ℕ) (ts : List Term) (size : ℕ) → TextIs l.text l.ends l.marks l.count nodes → RestIs columns l.leaf l.initial.at (take size l.initial.word) ts [] → SeekingWord nodes columns l.leaf l.at l.word ts)
+    × ((nodes : List Node) (columns : ℕ) (ts : List Term) (size : ℕ) → TextIs l.text.bytes.now l.text.stops.now l.text.marks.now l.text.count nodes → RestIs columns l.leaf l.initial.at (take size l.initial.word) ts [] → SeekingWord nodes columns l.leaf l.at l.word ts)
 
 abbrev pub decreases-loop-at : goal.decreases-loop-at
 decreases-loop-at l = length l.leaf - l.at

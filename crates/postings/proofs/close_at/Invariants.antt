@@ -1,13 +1,9 @@
--- `close_at` meets its contract. The loop's invariant: the run of bytes that are not 0 ends where the run from `i` on ends. The measure is what is
--- left of the list.
-use Prim.Native.Nat.{◌+◌, ◌-◌, ◌≤◌}
+-- `close_at` meets its contract. The loop's invariant: the run of bytes that are not 0 ends where the run from `i` on ends.
+use Prim.Native.Nat.{◌+◌}
 use mathlib.Core.Path.{◌≡◌}
 use Rattle.common.specs.Bytes.{part, span}
 use Rattle.cursors.specs.Arrays.{is_open}
 use Rattle.postings.proofs.close_at.Given as goal
 
 abbrev pub invariant-loop-i : goal.invariant-loop-i
-invariant-loop-i l = (l.from ≤ l.i) × (l.i ≤ l.to) × (l.from + span is_open (part l.leaves l.from l.to) ≡ l.i + span is_open (part l.leaves l.i l.to))
-
-abbrev pub decreases-loop-i : goal.decreases-loop-i
-decreases-loop-i l = l.to - l.i
+invariant-loop-i l = l.from + span is_open (part l.leaves l.from l.to) ≡ l.i + span is_open (part l.leaves l.i l.to)

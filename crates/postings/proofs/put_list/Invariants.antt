@@ -4,8 +4,8 @@ use Rattle.postings.proofs.Choosing.{ahead}
 use Rattle.postings.proofs.Going.{Going}
 use Rattle.postings.proofs.put_list.Given as goal
 
-abbrev pub invariant-loop-lasts : goal.invariant-loop-lasts
-invariant-loop-lasts l = Going l.write l.keep l.leaves l.initial.at l.initial.places l.lasts l.n l.initial.out l.at l.places l.out l.from l.stored
+abbrev pub invariant-loop-first : goal.invariant-loop-first
+invariant-loop-first l = Going l.write l.keep l.leaves l.initial.at l.initial.places l.lasts l.n l.initial.out l.at l.places l.out l.from l.stored
 
-abbrev pub decreases-loop-lasts : goal.decreases-loop-lasts
-decreases-loop-lasts l = ahead l.at
+abbrev pub decreases-loop-first : goal.decreases-loop-first
+decreases-loop-first l = ahead l.at

@@ -6,7 +6,6 @@ use Rattle.offsets.specs.Cut.{cut}
 use Rattle.query.specs.Tree.{OR, AND, NOT}
 use Rattle.query.specs.Grammar.{Level, near, level}
 use Rattle.query.specs.Parsing.{rank}
-use Rattle.query.specs.Levels.{query_of}
 use Rattle.query.proofs.Steps.{left_over, Going}
 use Rattle.query.proofs.+and_level_not_level_operand_level_or_level.Given as goal
 
@@ -30,26 +29,23 @@ decreases-or_level l = measure l.depth (length l.s.now) l.at (level OR)
 
 -- ---- the loops of the operators' levels
 
-abbrev pub invariant-or_level-loop-left : goal.invariant-or_level-loop-left
-invariant-or_level-loop-left l =
-    Going (cut l.names l.name_ends) l.s l.depth OR l.initial.left (query_of l.initial.text l.initial.ends l.initial.marks l.initial.columns l.initial.ties l.initial.distances l.initial.left.count l.initial.codes l.initial.left.len)
-    l.left (query_of l.text l.ends l.marks l.columns l.ties l.distances l.left.count l.codes l.left.len)
+abbrev pub invariant-or_level-loop-n : goal.invariant-or_level-loop-n
+invariant-or_level-loop-n l =
+    Going (cut l.names l.name_ends) l.s l.depth OR l.initial.left l.initial.query l.left l.query
 
-abbrev pub decreases-or_level-loop-left : goal.decreases-or_level-loop-left
-decreases-or_level-loop-left l = left_over l.s l.left
+abbrev pub decreases-or_level-loop-n : goal.decreases-or_level-loop-n
+decreases-or_level-loop-n l = left_over l.s l.left
 
-abbrev pub invariant-and_level-loop-left : goal.invariant-and_level-loop-left
-invariant-and_level-loop-left l =
-    Going (cut l.names l.name_ends) l.s l.depth AND l.initial.left (query_of l.initial.text l.initial.ends l.initial.marks l.initial.columns l.initial.ties l.initial.distances l.initial.left.count l.initial.codes l.initial.left.len)
-    l.left (query_of l.text l.ends l.marks l.columns l.ties l.distances l.left.count l.codes l.left.len)
+abbrev pub invariant-and_level-loop-n : goal.invariant-and_level-loop-n
+invariant-and_level-loop-n l =
+    Going (cut l.names l.name_ends) l.s l.depth AND l.initial.left l.initial.query l.left l.query
 
-abbrev pub decreases-and_level-loop-left : goal.decreases-and_level-loop-left
-decreases-and_level-loop-left l = left_over l.s l.left
+abbrev pub decreases-and_level-loop-n : goal.decreases-and_level-loop-n
+decreases-and_level-loop-n l = left_over l.s l.left
 
-abbrev pub invariant-not_level-loop-left : goal.invariant-not_level-loop-left
-invariant-not_level-loop-left l =
-    Going (cut l.names l.name_ends) l.s l.depth NOT l.initial.left (query_of l.initial.text l.initial.ends l.initial.marks l.initial.columns l.initial.ties l.initial.distances l.initial.left.count l.initial.codes l.initial.left.len)
-    l.left (query_of l.text l.ends l.marks l.columns l.ties l.distances l.left.count l.codes l.left.len)
+abbrev pub invariant-not_level-loop-n : goal.invariant-not_level-loop-n
+invariant-not_level-loop-n l =
+    Going (cut l.names l.name_ends) l.s l.depth NOT l.initial.left l.initial.query l.left l.query
 
-abbrev pub decreases-not_level-loop-left : goal.decreases-not_level-loop-left
-decreases-not_level-loop-left l = left_over l.s l.left
+abbrev pub decreases-not_level-loop-n : goal.decreases-not_level-loop-n
+decreases-not_level-loop-n l = left_over l.s l.left

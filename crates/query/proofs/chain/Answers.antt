@@ -1,46 +1,39 @@
 -- `chain` meets its contract: the goals that tactics leave open. What its loops keep stands in Invariants.antt.
-use mathlib.Core.Path.{refl, sym, subst}
+use Rattle.std.proofs.Common.{rules}
+use mathlib.Core.Path.{sym, subst}
+use Rattle.std.specs.Prelude.{Some}
 use Rattle.offsets.specs.Cut.{cut}
-use Rattle.lexer.specs.Filling.{words_of}
 use Rattle.query.specs.declared.Ops.{Ops}
-use Rattle.query.specs.declared.Parse.{Parse}
-use Rattle.query.specs.Levels.{query_of, Chained}
-use Rattle.query.proofs.Operands.{linking_starts, chain_fails, chain_ends, linking_turns, linking_less}
+use Rattle.query.specs.Levels.{Chained}
+use Rattle.query.proofs.Operands.{chain_missing, chain_ends, link_missing, linking_turns, linking_less}
 use Rattle.query.proofs.chain.Goals as goal
 
-pub loop-left-init : goal.loop-left-init
-loop-left-init c = let a = c.args in
-    let f = c.phrase-left in
-    linking_starts (cut a.names.now a.name_ends.now) a.s.now a.at _ f.result _ (f.ensures a.codes.now)
+pub returns-in_err-left : goal.returns-in_err-left
+returns-in_err-left c = let a = c.args in
+    rw c.from_residual.ensures
+    (chain_missing (cut a.names.now a.name_ends.now) a.s.now a.at a.query.now _ c.in_err-left.ensures)
 
-pub returns-then-ahead-ne-NEAR : goal.returns-then-ahead-ne-NEAR
-returns-then-ahead-ne-NEAR c = let a = c.args in
-    let f = c.phrase-left in
-    let l = c.loop-left in
-    let names = cut a.names.now a.name_ends.now in
-    let q = query_of a.text.now a.ends.now a.marks.now a.columns.now a.ties.now a.distances.now a.count a.codes.now a.len in
-    let x : Parse = record { ok = l.left.ok; at = l.left.at; ahead = l.left.ahead; count = l.left.count; len = c.push.result } in
-    subst
-    (λ (o : Ops). Chained names a.s.now a.at q x (record { words = words_of l.text l.ends l.marks l.columns l.ties l.distances l.left.count; ops = o }))
-    (sym c.push.ensures)
-    (chain_ends names a.s.now a.at q f.result _ (f.ensures a.codes.now) l.left _ l.invariant c.loop-left-test.true c.if-ahead-ne-NEAR.true x refl refl refl)
+pub returns-in_err-left-2 : goal.returns-in_err-left-2
+returns-in_err-left-2 c = let a = c.args in
+    let l = c.loop-near in
+    rw c.from_residual-in_err-left-2.ensures
+    (link_missing (cut a.names.now a.name_ends.now) a.s.now a.at a.query.now _ _ c.in_ok-left.ensures l.left _ l.invariant (search rules) _ c.in_err-left-2.ensures)
 
-pub loop-left-smaller : goal.loop-left-smaller
-loop-left-smaller c = let a = c.args in
-    let f = c.phrase-left in
-    let l = c.loop-left in
-    let r = c.phrase-left-in-loop-left in
-    linking_less (cut a.names.now a.name_ends.now) a.s.now f.result _ l.left _ l.invariant c.loop-left-test.true c.if-ahead-ne-NEAR.false r.result _ (r.ensures l.codes)
+pub loop-near-smaller : goal.loop-near-smaller
+loop-near-smaller c = let a = c.args in
+    let l = c.loop-near in
+    linking_less (cut a.names.now a.name_ends.now) a.s.now a.at a.query.now _ _ c.in_ok-left.ensures l.left _ l.invariant (search rules) _ _ c.in_ok-left-2.ensures
 
-pub loop-left-preserved : goal.loop-left-preserved
-loop-left-preserved c = let a = c.args in
-    let f = c.phrase-left in
-    let l = c.loop-left in
-    let r = c.phrase-left-in-loop-left in
-    linking_turns (cut a.names.now a.name_ends.now) a.s.now f.result _ l.left _ l.invariant c.loop-left-test.true c.if-ahead-ne-NEAR.false r.result _ (r.ensures l.codes)
+pub loop-near-preserved : goal.loop-near-preserved
+loop-near-preserved c = let a = c.args in
+    let l = c.loop-near in
+    linking_turns (cut a.names.now a.name_ends.now) a.s.now a.at a.query.now _ _ c.in_ok-left.ensures l.left _ l.invariant (search rules) _ _ c.in_ok-left-2.ensures
 
 pub returns : goal.returns
 returns c = let a = c.args in
-    let f = c.phrase-left in
-    let l = c.loop-left in
-    chain_fails (cut a.names.now a.name_ends.now) a.s.now a.at _ f.result _ (f.ensures a.codes.now) l.left _ l.invariant c.loop-left-test.false
+    let l = c.loop-near in
+    let names = cut a.names.now a.name_ends.now in
+    subst
+    (λ (o : Ops). Chained names a.s.now a.at a.query.now (Some l.left) (record { words = l.query.words; ops = o }))
+    (sym c.push.ensures)
+    (chain_ends names a.s.now a.at a.query.now _ _ c.in_ok-left.ensures l.left _ l.invariant (search rules))

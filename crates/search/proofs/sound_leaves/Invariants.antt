@@ -1,14 +1,10 @@
 -- `sound_leaves` meets its contract. The loop's invariant: the first `i` leaves keep every rule.
-use Prim.Native.Nat.{◌-◌, ◌≤◌}
 use mathlib.Core.List.{List}
-use lib.ListN.{length, take}
+use lib.ListN.{take}
 use Rattle.offsets.specs.Cut.{cut}
 use Rattle.leaf.specs.Leaf.{Term, AreLeaves}
 use Rattle.search.specs.Checking.{Checkable}
 use Rattle.search.proofs.sound_leaves.Given as goal
 
 abbrev pub invariant-loop-i : goal.invariant-loop-i
-invariant-loop-i l = (l.i ≤ length l.ends) × (Checkable l.columns l.leaves → (index : List (List Term)) × AreLeaves l.columns (take l.i (cut l.leaves l.ends)) index)
-
-abbrev pub decreases-loop-i : goal.decreases-loop-i
-decreases-loop-i l = length l.ends - l.i
+invariant-loop-i l = Checkable l.columns l.leaves → (index : List (List Term)) × AreLeaves l.columns (take l.i (cut l.leaves l.ends)) index

@@ -1,25 +1,10 @@
--- `put` meets its contract: the goals that tactics leave open. What its loops keep stands in Invariants.antt.
+-- `put` meets its contract: the goals that tactics leave open. What its loop keeps stands in Invariants.antt.
 use native.Mathlib.Omega.{arith}
-use Rattle.varint.specs.Varint.{max_varint}
-use Rattle.varint.proofs.Writing.{begin, begun_within, begun_more, begun_last}
+use Rattle.varint.proofs.Writing.{begun_more, begun_last}
 use Rattle.varint.proofs.put.Goals as goal
 
-pub loop-rest-init : goal.loop-rest-init
-loop-rest-init c = begin max_varint c.args.v c.args.room.now (omega arith) (omega arith)
+pub returns-then-rest-lt-BASE : goal.returns-then-rest-lt-BASE
+returns-then-rest-lt-BASE c = begun_last c.loop-b.invariant (omega arith) (omega arith)
 
-pub bounds-room-i : goal.bounds-room-i
-bounds-room-i c = omega (arith, begun_within c.loop-rest.invariant c.requires)
-
-pub overflow_add-i : goal.overflow_add-i
-overflow_add-i c = omega (arith, begun_within c.loop-rest.invariant c.requires)
-
-pub loop-rest-preserved : goal.loop-rest-preserved
-loop-rest-preserved c = let w = c.loop-rest.invariant in
-    begun_more w (begun_within w c.requires) (omega arith)
-
-pub bounds-room-i-2 : goal.bounds-room-i-2
-bounds-room-i-2 c = omega (arith, begun_within c.loop-rest.invariant c.requires)
-
-pub returns : goal.returns
-returns c = let w = c.loop-rest.invariant in
-    begun_last w (begun_within w c.requires) (omega arith)
+pub loop-b-preserved : goal.loop-b-preserved
+loop-b-preserved c = begun_more c.loop-b.invariant (omega arith) (omega arith)

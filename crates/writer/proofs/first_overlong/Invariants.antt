@@ -1,14 +1,10 @@
--- `first_overlong` meets its contract. The loop's invariant: the columns passed have no word over 64 bytes. The measure is
--- what is left of the ends.
-use Prim.Native.Nat.{◌+◌, ◌-◌}
+-- `first_overlong` meets its contract. The loop's invariant: the columns passed have no word over 64 bytes.
+use Prim.Native.Nat.{◌+◌}
 use mathlib.Core.Path.{◌≡◌}
-use lib.ListN.{length, drop}
+use lib.ListN.{drop}
 use Rattle.offsets.specs.Cut.{cut}
 use Rattle.writer.specs.Answers.{first_overlong}
 use Rattle.writer.proofs.first_overlong.Given as goal
 
 abbrev pub invariant-loop-i : goal.invariant-loop-i
 invariant-loop-i l = l.i + first_overlong (drop l.i (cut l.texts l.ends)) ≡ first_overlong (cut l.texts l.ends)
-
-abbrev pub decreases-loop-i : goal.decreases-loop-i
-decreases-loop-i l = length l.ends - l.i

@@ -1,10 +1,7 @@
 -- `held` meets its contract. The invariant: what it has found is how far the bytes passed reach.
-use Rattle.std.proofs.Common.{◌≡◌, ◌-◌, ◌≤◌, length}
+use Rattle.std.proofs.Common.{◌≡◌}
 use Rattle.cases.specs.Rooms.{reach}
 use Rattle.cases.proofs.documents.held.Given as goal
 
 abbrev pub invariant-loop-i : goal.invariant-loop-i
-invariant-loop-i l = (l.i ≤ length l.room) × (l.last ≡ reach l.room l.i)
-
-abbrev pub decreases-loop-i : goal.decreases-loop-i
-decreases-loop-i l = length l.room - l.i
+invariant-loop-i l = l.last ≡ reach l.room l.i

@@ -1,21 +1,12 @@
 -- `add_word` meets its contract: the word goes to the end, unless its merge is empty.
 use native.Mathlib.Omega.{arith}
-use mathlib.Core.Path.{◌≡◌, sym}
+use mathlib.Core.Path.{◌≡◌}
 use lib.Seq.{length-take-le}
 use lib.ListN.{length}
 use borrow.Author.Tests.{leb-true, leb-false}
 use Rattle.merge.proofs.Adding.{word_none, word_some}
 use borrow.Author.Rules.{rules}
 use Rattle.merge.proofs.words.add_word.Goals as goal
-
-pub slice_bounds-before-end : goal.slice_bounds-before-end
-slice_bounds-before-end c = let h : length c.args.stored.word ≡ 64 = search rules in omega (arith, c.requires)
-
-pub slice_bounds-put_term_at-end : goal.slice_bounds-put_term_at-end
-slice_bounds-put_term_at-end c = let h : length c.args.stored.word ≡ 64 = search rules in sym (length-take-le c.args.stored.size c.args.stored.word (omega (arith, c.requires)))
-
-pub slice_bounds-put_term_at-end-2 : goal.slice_bounds-put_term_at-end-2
-slice_bounds-put_term_at-end-2 c = let h : length c.args.word ≡ 64 = search rules in sym (length-take-le c.args.size c.args.word (omega (arith, c.requires)))
 
 pub put_term_at-more-requires : goal.put_term_at-more-requires
 put_term_at-more-requires c = let h : length c.args.word ≡ 64 = search rules in omega (arith, length-take-le c.args.size c.args.word (omega (arith, c.requires)), c.requires)

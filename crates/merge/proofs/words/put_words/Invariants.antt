@@ -4,7 +4,7 @@ use Rattle.merge.proofs.Stepping.{Looping}
 use Rattle.merge.proofs.words.put_words.Given as goal
 
 abbrev pub invariant-loop-stored : goal.invariant-loop-stored
-invariant-loop-stored l = Looping l.keep l.text l.stops l.marks l.leaves l.ends l.order l.initial.out l.fronts l.stored l.left l.out
+invariant-loop-stored l = Looping l.lent.keep l.lent.text.now l.lent.stops.now l.lent.marks.now l.lent.leaves.bytes.now l.lent.leaves.ends.now l.lent.leaves.order.now l.initial.out l.fronts l.stored l.left l.out
 
 abbrev pub decreases-loop-stored : goal.decreases-loop-stored
 decreases-loop-stored l = l.left

@@ -1,6 +1,4 @@
--- `fold_all` meets its contract. The loop's invariant: the bytes passed stand folded at the front. The measure is what is
--- left of the texts.
-use Prim.Native.Nat.{◌-◌}
+-- `fold_all` meets its contract. The loop's invariant: the bytes passed stand folded at the front.
 use mathlib.Core.Path.{◌≡◌}
 use mathlib.Core.List.{map}
 use lib.ListN.{length, take}
@@ -10,6 +8,3 @@ use Rattle.writer.proofs.rows.fold_all.Given as goal
 
 abbrev pub invariant-loop-i : goal.invariant-loop-i
 invariant-loop-i l = (length l.folded ≡ length l.initial.folded) × (l.folded ≡ over (take l.i (map fold l.texts)) l.initial.folded)
-
-abbrev pub decreases-loop-i : goal.decreases-loop-i
-decreases-loop-i l = length l.texts - l.i

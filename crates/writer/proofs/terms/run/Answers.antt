@@ -1,27 +1,27 @@
--- `run` meets its contract: the goals that tactics leave open. What its loops keep stands in Invariants.antt.
+-- `run` meets its contract: the goals that tactics leave open. What its loop keeps stands in Invariants.antt.
 use native.Mathlib.Omega.{arith}
-use mathlib.Core.Path.{sym, ap, ◌∙◌}
+use mathlib.Core.Path.{◌≡◌, sym, ap, ◌∙◌}
+use lib.Dec.{eqb}
+use lib.ListN.{get_or}
+use lib.Pointwise.{pointwise}
 use borrow.Author.Tests.{not-true, not-false}
 use Rattle.common.specs.Bytes.{same}
-use Rattle.common.proofs.Runs.{past_end, past_stop, past_more}
-use Rattle.writer.specs.Rows.{same_word}
+use Rattle.common.proofs.Same.{pointwise_same}
+use Rattle.writer.proofs.RowRuns.{past_stop, past_more}
+use Rattle.writer.specs.Rows.{no_row, same_word}
 use Rattle.writer.proofs.terms.run.Goals as goal
+use Rattle.writer.proofs.terms.run.Goals.{After-ne}
 
-pub word_of-requires : goal.word_of-requires
-word_of-requires c = c.requires c.loop-i.i (omega arith)
+-- what is compared is the row's word
+test : (c : After-ne) → pointwise eqb c.args.w.now c.word_of.result.now ≡ same_word c.args.folded.now c.args.w.now (get_or c.args.rows.now c.loop-i.i no_row)
+test c = pointwise_same c.args.w.now c.word_of.result.now ∙ ap (same c.args.w.now) c.word_of.ensures
 
-pub returns-then-not-is_same : goal.returns-then-not-is_same
-returns-then-not-is_same c = let a = c.args in
-    let s = c.is_same in
-    let f = sym (s.ensures ∙ ap (same a.w.now) c.word_of.ensures) ∙ not-true s.result c.if-not-is_same.true-raw in
+pub returns-then-ne : goal.returns-then-ne
+returns-then-ne c = let a = c.args in
+    let f = sym (test (goal.at.returns-then-ne c).After-ne) ∙ not-true _ (sym c.ne.ensures ∙ c.if-ne.true) in
     sym (past_stop (same_word a.folded.now a.w.now) a.rows.now c.loop-i.i (omega arith) f) ∙ c.loop-i.invariant
 
 pub loop-i-preserved : goal.loop-i-preserved
 loop-i-preserved c = let a = c.args in
-    let s = c.is_same in
-    let f = sym (s.ensures ∙ ap (same a.w.now) c.word_of.ensures) ∙ not-false s.result c.if-not-is_same.false-raw in
+    let f = sym (test (goal.at.loop-i-preserved c).After-ne) ∙ not-false _ (sym c.ne.ensures ∙ c.if-ne.false) in
     sym (past_more (same_word a.folded.now a.w.now) a.rows.now c.loop-i.i (omega arith) f) ∙ c.loop-i.invariant
-
-pub returns : goal.returns
-returns c = let a = c.args in
-    sym (past_end (same_word a.folded.now a.w.now) a.rows.now c.loop-i.i c.loop-i-test.false) ∙ c.loop-i.invariant

@@ -6,7 +6,6 @@ use Rattle.varint.specs.Varint.{max_varint}
 use Rattle.varint.proofs.Laws.{encode_most}
 use Rattle.storing.proofs.WordLaws.{word_bytes_most}
 use Rattle.writer.proofs.Lists.{list_most}
-use Rattle.writer.proofs.TermLaws.{term_sized}
 use Rattle.writer.proofs.terms.term_size.Goals as goal
 use Rattle.writer.proofs.terms.term_size.Goals.{After-size, After-word_size}
 
@@ -24,9 +23,3 @@ overflow_add-result c = omega (arith, list c, word (goal.at.overflow_add-result 
 
 pub overflow_add-result-2 : goal.overflow_add-result-2
 overflow_add-result-2 c = omega (arith, list c, word (goal.at.overflow_add-result-2 c).After-word_size)
-
-pub returns : goal.returns
-returns c = let a = c.args in
-    let m = c.word_size in
-    let n = c.list_size-list in
-    omega (arith, c.size.ensures, term_sized a.before.now a.w.now a.docid a.rows.now m.result n.result m.ensures n.ensures)

@@ -1,76 +1,71 @@
--- `terms_size` meets its contract: the goals that tactics leave open. What its loops keep stands in Invariants.antt.
+-- `terms_size` meets its contract: the goals that tactics leave open. What its loop keeps stands in Invariants.antt.
 use Prim.Native.Nat.{◌+◌, ◌-◌, ◌≤◌, ◌<◌}
 use native.Mathlib.Omega.{arith}
-use mathlib.Core.Path.{◌≡◌, refl, ap, ◌∙◌}
-use lib.ListN.{length, get_or, take, drop, length-append}
-use Rattle.writer.specs.Rows.{row_word}
-use Rattle.writer.specs.Stored.{term_of, terms_from}
-use Rattle.writer.proofs.TermLaws.{terms_most, runs_start, runs_end, run_inside, run_within, run_rows, runs_next, runs_term}
+use mathlib.Core.Path.{◌≡◌, sym, ap, subst, ◌∙◌}
+use lib.ListN.{length, get_or, take, drop, length-append, length-drop}
+use Rattle.writer.specs.Rows.{no_row, row_word}
+use Rattle.writer.specs.Stored.{Rises, term_of, terms_from}
+use Rattle.writer.proofs.TermLaws.{AtRun, terms_most, runs_end, run_within, run_rows, runs_next, runs_term}
 use Rattle.writer.proofs.terms.terms_size.Goals as goal
 use Rattle.writer.proofs.terms.terms_size.Goals.{After-run, After-term_size-total}
 
 -- the run has rows, all there are
-within : (c : After-run) → (0 < c.run.result) × (c.loop-i.i + c.run.result ≤ length c.args.rows.now)
+within : (c : After-run) → (0 < c.run.result) × (c.run.result ≤ length c.loop-rest.rest.now)
 within c =
-    let l = c.loop-i in
-    run_within c.args.folded.now c.args.rows.now c.requires l.last l.i l.invariant.0 l.invariant.1 c.loop-i-test.true c.word_of-w.result.now c.run.result c.word_of-w.ensures c.run.ensures
+    let l = c.loop-rest in
+    run_within c.args.folded.now l.rest.now l.last l.invariant.0 l.invariant.1 c.in-len1-up.len_at_least c.word_of-w.result.now c.run.result c.word_of-w.ensures c.run.ensures
 
 -- the run's term, and the terms after it
 split : (c : After-term_size-total)
-    → length (terms_from c.loop-i.invariant.0 c.args.folded.now c.args.docid c.loop-i.last (drop c.loop-i.i c.args.rows.now))
-    ≡ c.term_size-total.result + length (terms_from (c.loop-i.invariant.0 - 1) c.args.folded.now c.args.docid (get_or c.args.rows.now c.loop-i.i 0) (drop (c.loop-i.i + c.run.result) c.args.rows.now))
+    → length (terms_from c.loop-rest.invariant.0 c.args.folded.now c.args.docid c.loop-rest.last c.loop-rest.rest.now)
+    ≡ c.term_size-total.result + length (terms_from (c.loop-rest.invariant.0 - 1) c.args.folded.now c.args.docid (get_or c.loop-rest.rest.now 0 no_row) (drop c.run.result c.loop-rest.rest.now))
 split c =
-    let l = c.loop-i in
+    let l = c.loop-rest in
     let w = c.word_of-w in
     let n = c.run in
-    let next = l.i + n.result in
-    let run = take (next - l.i) (drop l.i c.args.rows.now) in
-    let rest = terms_from (l.invariant.0 - 1) c.args.folded.now c.args.docid (get_or c.args.rows.now l.i 0) (drop next c.args.rows.now) in
-    let t = runs_term c.args.folded.now c.args.rows.now c.requires l.last l.i l.invariant.0 l.invariant.1 c.loop-i-test.true w.result.now n.result w.ensures n.ensures c.args.docid next refl in
-    let s = c.term_size-total.ensures ∙ ap (λ x. length (term_of x w.result.now c.args.docid run)) c.word_of.ensures in
+    let run = take n.result l.rest.now in
+    let rest = terms_from (l.invariant.0 - 1) c.args.folded.now c.args.docid (get_or l.rest.now 0 no_row) (drop n.result l.rest.now) in
+    let t = runs_term c.args.folded.now l.rest.now l.last l.invariant.0 l.invariant.1 c.in-len1-up.len_at_least w.result.now n.result w.ensures n.ensures c.args.docid in
+    let s =
+    c.term_size-total.ensures
+    ∙ ap (λ x. length (term_of x w.result.now c.args.docid c.split_at.result.0.now)) c.word_of.ensures
+    ∙ ap (λ x. length (term_of (row_word c.args.folded.now l.last) w.result.now c.args.docid x)) c.split_at.ensures.front in
     omega (arith, s, ap length t, length-append (term_of (row_word c.args.folded.now l.last) w.result.now c.args.docid run) rest)
 
-pub loop-i-init : goal.loop-i-init
-loop-i-init c = (length c.args.rows.now, runs_start c.args.folded.now c.args.rows.now c.requires, omega arith)
-
-pub word_of-w-requires : goal.word_of-w-requires
-word_of-w-requires c = c.requires.inside c.loop-i.i c.loop-i-test.true
-
-pub run-requires : goal.run-requires
-run-requires c = let l = c.loop-i in
-    run_inside c.args.folded.now c.args.rows.now c.requires l.last l.i l.invariant.0 l.invariant.1 c.loop-i-test.true
-
-pub overflow_add-next : goal.overflow_add-next
-overflow_add-next c = omega (arith, within c)
-
-pub word_of-requires : goal.word_of-requires
-word_of-requires c = c.loop-i.invariant.1.last_inside
-
-pub slice_bounds-term_size-end : goal.slice_bounds-term_size-end
-slice_bounds-term_size-end c = (within (goal.at.slice_bounds-term_size-end c).After-run).1
+pub split_at-requires : goal.split_at-requires
+split_at-requires c = (within (goal.at.split_at-requires c).After-run).1
 
 pub term_size-total-requires : goal.term_size-total-requires
-term_size-total-requires c = let l = c.loop-i in
+term_size-total-requires c = let l = c.loop-rest in
     let w = c.word_of-w in
     let n = c.run in
-    run_rows c.args.folded.now c.args.rows.now c.requires l.last l.i l.invariant.0 l.invariant.1 c.loop-i-test.true w.result.now n.result w.ensures n.ensures (l.i + n.result) refl
+    subst (λ x. Rises no_row x × (length x ≤ 4096)) (sym c.split_at.ensures.front)
+    (run_rows c.args.folded.now l.rest.now l.last l.invariant.0 l.invariant.1 c.in-len1-up.len_at_least w.result.now n.result w.ensures n.ensures)
 
 pub overflow_add-total : goal.overflow_add-total
-overflow_add-total c = let l = c.loop-i in
-    omega (arith, split c, l.invariant.2, c.requires.few, terms_most (length c.args.rows.now) c.args.folded.now c.args.docid 0 c.args.rows.now c.requires.short)
+overflow_add-total c = let l = c.loop-rest in
+    omega (arith, split c, l.invariant.2, c.requires.few, terms_most (length c.args.rows.now) c.args.folded.now c.args.docid no_row c.args.rows.now c.requires.short)
 
-pub loop-i-smaller : goal.loop-i-smaller
-loop-i-smaller c = omega (arith, within (goal.at.loop-i-smaller c).After-run)
+pub loop-rest-smaller : goal.loop-rest-smaller
+loop-rest-smaller c =
+    omega (arith, within (goal.at.loop-rest-smaller c).After-run, ap length c.split_at.ensures.back, length-drop c.run.result c.loop-rest.rest.now)
 
-pub loop-i-preserved : goal.loop-i-preserved
-loop-i-preserved c = let l = c.loop-i in
+pub loop-rest-preserved : goal.loop-rest-preserved
+loop-rest-preserved c = let l = c.loop-rest in
     let w = c.word_of-w in
-    let n = c.run in (
+    let n = c.run in
+    let more = runs_next c.args.folded.now l.rest.now l.last l.invariant.0 l.invariant.1 c.in-len1-up.len_at_least w.result.now n.result w.ensures n.ensures in
+    let e = c.split_at.ensures.back in (
       l.invariant.0 - 1,
-      runs_next c.args.folded.now c.args.rows.now c.requires l.last l.i l.invariant.0 l.invariant.1 c.loop-i-test.true w.result.now n.result w.ensures n.ensures (l.i + n.result) refl,
-      omega (arith, split (goal.at.loop-i-preserved c).After-term_size-total, l.invariant.2),
+      subst (λ x. AtRun c.args.folded.now x (get_or l.rest.now 0 no_row) (l.invariant.0 - 1)) (sym e) more,
+      omega (
+        arith,
+        split (goal.at.loop-rest-preserved c).After-term_size-total,
+        l.invariant.2,
+        ap (λ x. length (terms_from (l.invariant.0 - 1) c.args.folded.now c.args.docid (get_or l.rest.now 0 no_row) x)) e,
+      ),
     )
 
 pub returns : goal.returns
-returns c = let l = c.loop-i in
-    omega (arith, l.invariant.2, ap length (runs_end c.args.folded.now c.args.rows.now c.requires l.last l.i l.invariant.0 l.invariant.1 c.args.docid c.loop-i-test.false))
+returns c = let l = c.loop-rest in
+    omega (arith, l.invariant.2, ap length (runs_end c.args.folded.now c.args.docid l.invariant.0 l.last l.rest.now (omega arith)))

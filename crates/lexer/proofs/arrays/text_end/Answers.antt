@@ -1,9 +1,0 @@
--- The function meets its contract: with no word the text is empty, else the last end tells.
-use borrow.Author.Tests.{eq-eqb, ne_eqb}
-use Rattle.lexer.proofs.arrays.text_end.Goals as goal
-
-pub returns-then-count-eq0 : goal.returns-then-count-eq0
-returns-then-count-eq0 c = rw (eq-eqb c.args.count 0 c.if-count-eq0.true)
-
-pub returns : goal.returns
-returns c = rw (ne_eqb c.args.count 0 c.if-count-eq0.false)
