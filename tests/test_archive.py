@@ -1,5 +1,5 @@
 #!/usr/bin/env python3
-"""The static library defines just the eight calls, the header declares them as the tools call them, and it needs no symbol but three of C's."""
+"""The static library defines just the eight calls, the header declares them as the tools call them, and it needs no symbol but two of C's."""
 import os
 import re
 import subprocess
@@ -9,7 +9,8 @@ import paths
 from fts4box import ARCHIVE, CALLS, I64, PTR, SIZE, U32
 from tally import Tally
 
-NEEDED = {"memcpy", "memmove", "memset"}
+# docs/REFERENCE.md asks for memmove too, so that a later build may need it; this one must not: what brought it was taken back (docs/LOOK-BACK.md).
+NEEDED = {"memcpy", "memset"}
 TYPES = {"size_t": SIZE, "uint32_t": U32, "int64_t": I64}
 
 
@@ -30,7 +31,7 @@ def main():
     tally = Tally()
     tally.check("declared in the header", declared(), CALLS)
     tally.check("defined", symbols("--defined-only"), set(CALLS))
-    tally.check("needed beside memcpy, memmove and memset", symbols("--undefined-only") - NEEDED, set())
+    tally.check("needed beside memcpy and memset", symbols("--undefined-only") - NEEDED, set())
     return tally.finish()
 
 

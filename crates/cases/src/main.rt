@@ -153,19 +153,20 @@ fn with_pairs(input: &mut impl Read, out: &mut impl Write, case: Case<'_>) -> io
 
 // Answers one case; whether there was one.
 fn one_case(input: &mut impl Read, out: &mut impl Write) -> io::Result<bool> {
+    // All that is large stands first: what a function begins with is cleared once, and else as it begins and again where it stands.
+    let mut first = [0u8; MAX_FIELD];
+    let mut first_ends = [0u32; MAX_ENDS];
+    let mut second = [0u8; MAX_FIELD];
+    let mut second_ends = [0u32; MAX_ENDS];
     let kind = exchange::number(input)?;
     if kind == 0 {
         return Ok(false);
     }
     let n = exchange::number(input)?;
     let m = exchange::number(input)?;
-    let mut first = [0u8; MAX_FIELD];
     let first_size = exchange::field(input, &mut first)?;
-    let mut first_ends = [0u32; MAX_ENDS];
     let first_count = exchange::ends(input, &mut first_ends)?;
-    let mut second = [0u8; MAX_FIELD];
     let second_size = exchange::field(input, &mut second)?;
-    let mut second_ends = [0u32; MAX_ENDS];
     let second_count = exchange::ends(input, &mut second_ends)?;
     let case = Case {
         kind,

@@ -1,42 +1,48 @@
--- A number put at a place of a list, and turned to the front of what stands there from an earlier place on.
-use Prim.Native.Nat.{ℕ, suc, ◌+◌, ◌-◌, ◌≤◌, ◌<◌}
+-- A number put into a list, and what stands from its place on moved by one.
+use Prim.Native.Nat.{ℕ, zero, suc, ◌+◌, ◌-◌, ◌≤◌, ◌<◌}
 use native.Mathlib.Omega.{arith}
-use mathlib.Core.Path.{◌≡◌, ap, ap₂, ◌∙◌}
+use native.Mathlib.Numerals.{add-one}
+use mathlib.Core.Path.{◌≡◌, refl, sym, ap, ap₂, subst, ◌∙◌}
 use mathlib.Core.List.{List, [], ◌∷◌, ◌++◌}
-use lib.ListN.{length, take, drop, set, length-append, length-drop, drop_of_length-le}
-use lib.Seq.{take-append-le, drop-append-le, take_all, take-set-le, drop-drop, drop-set-lt, drop-set-add, take-suc-set}
-use borrow.Rule.Slice.PartMut.{put_mid}
+use lib.ListN.{length, get_or, take, drop, set, take-append-drop}
+use lib.Seq.{drop-cons}
 use Rattle.common.specs.Bytes.{part}
 
--- the last of a list turned to its front
-turned : (q : List ℕ) (v n : ℕ) → n ≡ length q → drop n (q ++ v ∷ []) ++ take n (q ++ v ∷ []) ≡ v ∷ q
-turned q v n e =
-    ap₂ ◌++◌
-    (drop-append-le n q (v ∷ []) (omega arith) ∙ ap (λ (l : List ℕ). l ++ v ∷ []) (drop_of_length-le q (omega arith)))
-    (take-append-le n q (v ∷ []) (omega arith) ∙ take_all n q (omega arith))
+set_last : (b rest : List ℕ) (i v : ℕ) → i < length b → set (take (suc i) b ++ rest) i v ≡ take i b ++ v ∷ rest
+set_last [] rest i v h = absurd (omega arith)
+set_last (x ∷ b) rest zero v h = refl
+set_last (x ∷ b) rest (suc i) v h = ap (λ l. x ∷ l) (set_last b rest i v (omega arith))
 
-module _ (b : List ℕ) (at k v : ℕ) (l : at ≤ k) (h : k < length b) where
-  middle : take (k + 1 - at) (drop at (set b k v)) ≡ part b at k ++ v ∷ []
-  middle =
-      let e : k ≡ at + (k - at) = omega arith in
-      let n : k + 1 - at ≡ suc (k - at) = omega arith in
-      ap (λ j. take (k + 1 - at) (drop at (set b j v))) e
-      ∙ ap (take (k + 1 - at)) (drop-set-add at b (k - at) v)
-      ∙ ap (λ j. take j (set (drop at b) (k - at) v)) n
-      ∙ take-suc-set (drop at b) (k - at) v (omega (arith, length-drop at b))
+get_kept : (b rest : List ℕ) (i j : ℕ) → i < length b → j ≤ i → get_or (take (suc i) b ++ rest) j 0 ≡ get_or b j 0
+get_kept [] rest i j h l = absurd (omega arith)
+get_kept (x ∷ b) rest i zero h l = refl
+get_kept (x ∷ b) rest zero (suc j) h l = absurd (omega arith)
+get_kept (x ∷ b) rest (suc i) (suc j) h l = get_kept b rest i j (omega arith) (omega arith)
 
-  size : length (part b at k ++ v ∷ []) - 1 ≡ length (part b at k)
-  size = omega (arith, length-append (part b at k) (v ∷ []))
+part_more : (b : List ℕ) (i k : ℕ) → i < k → k ≤ length b → part b i k ≡ get_or b i 0 ∷ part b (suc i) k
+part_more b i k l h =
+    let e : k - i ≡ suc (k - suc i) = omega arith in
+    ap (λ n. take n (drop i b)) e ∙ ap (take (suc (k - suc i))) (drop-cons b i 0 (omega arith))
 
-  behind : drop (k + 1 - at) (drop at (set b k v)) ≡ drop (k + 1) b
-  behind =
-      let n : at + (k + 1 - at) ≡ k + 1 = omega arith in
-      drop-drop (k + 1 - at) at (set b k v) ∙ ap (λ j. drop j (set b k v)) n ∙ drop-set-lt (k + 1) b k v (omega arith)
+-- what is there once the numbers from the place `i` up to the place `k` went one on
+abbrev pub shifted : List ℕ → ℕ → ℕ → List ℕ
+shifted b k i = take (suc i) b ++ (part b i k ++ drop (k + 1) b)
 
-  pub inserted : (now : List ℕ)
-      → now ≡ drop (length (take (k + 1 - at) (drop at (set b k v))) - 1) (take (k + 1 - at) (drop at (set b k v)))
-      ++ take (length (take (k + 1 - at) (drop at (set b k v))) - 1) (take (k + 1 - at) (drop at (set b k v)))
-      → put_mid at (k + 1 - at) (set b k v) now ≡ take at b ++ v ∷ (part b at k ++ drop (k + 1) b)
-  inserted now e =
-      let m = e ∙ ap (λ (s : List ℕ). drop (length s - 1) s ++ take (length s - 1) s) middle ∙ turned (part b at k) v (length (part b at k ++ v ∷ []) - 1) size in
-      ap₂ ◌++◌ (take-set-le at b k v l) (ap₂ ◌++◌ m behind)
+module _ (b : List ℕ) (k : ℕ) (h : k < length b) where
+  pub shifted_none : b ≡ shifted b k k
+  shifted_none =
+      let e : k - k ≡ 0 = omega arith in
+      sym (ap (λ n. take (suc k) b ++ (take n (drop k b) ++ drop (k + 1) b)) e ∙ ap (λ n. take n b ++ drop (k + 1) b) (sym (add-one k)) ∙ take-append-drop (k + 1) b)
+
+  pub shifted_more : (now : List ℕ) (i : ℕ) → 0 < i → i ≤ k → now ≡ shifted b k i → set now i (get_or now (i - 1) 0) ≡ shifted b k (i - 1)
+  shifted_more now zero z l e = absurd (omega arith)
+  shifted_more now (suc i) z l e =
+      let q : suc i - 1 ≡ i = omega arith in
+      let v : get_or now i 0 ≡ get_or b i 0 = ap (λ s. get_or s i 0) e ∙ get_kept b (part b (suc i) k ++ drop (k + 1) b) (suc i) i (omega arith) (omega arith) in
+      subst (λ n. set now (suc i) (get_or now n 0) ≡ shifted b k n) (sym q)
+      (ap₂ (λ s x. set s (suc i) x) e v
+      ∙ set_last b (part b (suc i) k ++ drop (k + 1) b) (suc i) (get_or b i 0) (omega arith)
+      ∙ ap (λ p. take (suc i) b ++ (p ++ drop (k + 1) b)) (sym (part_more b i k (omega arith) (omega arith))))
+
+  pub shifted_set : (now : List ℕ) (at v : ℕ) → at ≤ k → now ≡ shifted b k at → set now at v ≡ take at b ++ v ∷ (part b at k ++ drop (k + 1) b)
+  shifted_set now at v l e = ap (λ s. set s at v) e ∙ set_last b (part b at k ++ drop (k + 1) b) at v (omega arith)

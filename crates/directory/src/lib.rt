@@ -34,8 +34,11 @@ fn insert(places: &mut [u8], at: usize, k: usize)
     requires { (at ≤ k) × (k < length places.old) × (k < 256) }
     ensures { places.new ≡ take at places.old ++ k ∷ (part places.old at k ++ drop (k + 1) places.old) }
 {
-    places[k] = k as u8;
-    places[at..=k].rotate_right(1);
+    // No `rotate_right`: the library for C would need `memmove` for it.
+    for i in (at..k).rev() {
+        places[i + 1] = places[i];
+    }
+    places[at] = k as u8;
 }
 
 // Whether two numbers have the same pair.

@@ -1,17 +1,20 @@
 -- The order of words and its test (`before_law`), and the test from the left, byte by byte.
-use Prim.Native.Nat.{ℕ, ◌<◌}
+use Prim.Native.Nat.{ℕ, ◌+◌, ◌≤◌, ◌<◌}
 use native.Mathlib.Omega.{arith}
-use mathlib.Core.Path.{◌≡◌, refl, sym, subst}
+use native.Mathlib.Numerals.{add-one}
+use mathlib.Core.Path.{◌≡◌, refl, sym, ap₂, subst, ◌∙◌}
 use mathlib.Core.Logic.{◌↔◌, inl, inr, ⊎_elim}
 use mathlib.Core.Bool.{true, false}
 use mathlib.Core.List.{List, [], ◌∷◌}
+use lib.ListN.{length, get_or, drop, drop_of_length-le}
+use lib.Seq.{drop-cons}
 use lib.Dec.{ltb, eqb}
-use borrow.Author.Tests.{ltb-true, lt-ltb, le-ltb, eqb-true, eq-eqb}
+use borrow.Author.Tests.{ltb-true, lt-ltb, le-ltb, eqb-true, eq-eqb, ne_eqb}
 use Rattle.std.specs.Cmp.Lexicographic.{slice_partial_cmp}
 use Rattle.std.specs.Ordering.{nat_cmp, as_partial_cmp, is_some_and, is_lt}
 use Rattle.common.specs.Pick.{both, either}
 use Rattle.common.specs.Bytes.{same}
-use Rattle.common.proofs.Cases.{bool_case, both_left, both_right, both_true, false_not_true}
+use Rattle.common.proofs.Cases.{bool_case, both_left, both_right, both_true, false_not_true, split}
 use Rattle.common.proofs.Same.{same_true}
 use Rattle.leaf.specs.Leaf.{Before, is_before}
 use Rattle.leaf.proofs.Words.{before_irrefl, before_trans}
@@ -59,6 +62,32 @@ later_not_same v w h = bool_case (same w v) (λ t. absurd (before_irrefl w (subs
 
 pub before_not_same : (v w : List ℕ) → Before v w → same v w ≡ false
 before_not_same v w h = bool_case (same v w) (λ t. absurd (before_irrefl w (subst (λ x. Before x w) (same_true v w t) h))) (λ t. t)
+
+-- ---- from the left
+
+module _ (a b : List ℕ) (i : ℕ) where
+  both_here : i < length a → i < length b
+      → is_before (drop i a) (drop i b) ≡ either (ltb (get_or a i 0) (get_or b i 0)) (both (eqb (get_or a i 0) (get_or b i 0)) (is_before (drop (i + 1) a) (drop (i + 1) b)))
+  both_here h k = ap₂ is_before (drop-cons a i 0 h) (drop-cons b i 0 k) ∙ rw add-one refl
+
+  pub before_ends : i < length a → length b ≤ i → is_before (drop i a) (drop i b) ≡ false
+  before_ends h k = ap₂ is_before (drop-cons a i 0 h) (drop_of_length-le b {i = i} k)
+
+  pub before_less : i < length a → i < length b → get_or a i 0 < get_or b i 0 → is_before (drop i a) (drop i b) ≡ true
+  before_less h k l = both_here h k ∙ rw (lt-ltb (get_or a i 0) (get_or b i 0) l) refl
+
+  pub before_more : i < length a → i < length b → get_or b i 0 < get_or a i 0 → is_before (drop i a) (drop i b) ≡ false
+  before_more h k l = both_here h k ∙ rw (le-ltb (get_or a i 0) (get_or b i 0) (omega arith), ne_eqb (get_or a i 0) (get_or b i 0) (λ e. omega arith)) refl
+
+  pub before_next : i < length a → i < length b → get_or b i 0 ≤ get_or a i 0 → get_or a i 0 ≤ get_or b i 0
+      → is_before (drop i a) (drop i b) ≡ is_before (drop (i + 1) a) (drop (i + 1) b)
+  before_next h k l m = both_here h k ∙ rw (le-ltb (get_or a i 0) (get_or b i 0) l, eq-eqb (get_or a i 0) (get_or b i 0) (omega arith)) refl
+
+  pub before_rest : length a ≤ i → is_before (drop i a) (drop i b) ≡ ltb i (length b)
+  before_rest h =
+      split i (length b)
+      (λ k. ap₂ is_before (drop_of_length-le a {i = i} h) (drop-cons b i 0 k) ∙ sym (lt-ltb i (length b) k))
+      (λ k. ap₂ is_before (drop_of_length-le a {i = i} h) (drop_of_length-le b {i = i} k) ∙ sym (le-ltb i (length b) k))
 
 -- ---- std's order of byte strings
 

@@ -8,7 +8,7 @@ use mathlib.Core.List.{List, [], ◌∷◌, ◌++◌}
 use lib.ListN.{length, get_or, take, drop, length-append}
 use lib.Seq.{paste}
 use lib.Dec.{ltb}
-use borrow.Author.Tests.{le-leb, lt-ltb, le-ltb, eq-eqb, ne_eqb, ltb-true, eqb-true}
+use borrow.Author.Tests.{le-leb, lt-leb, lt-ltb, le-ltb, eq-eqb, ne_eqb, ltb-true, eqb-true}
 use Rattle.common.proofs.Cases.{pick_case, split, same_or}
 use Rattle.varint.specs.Varint.{encode}
 use Rattle.leaf.specs.Leaf.{Before, shared, sized}
@@ -148,3 +148,6 @@ sized_length s = length-append (encode (length s)) s
 
 pub suffix_fits : (word suffix : List ℕ) (p : ℕ) → p + length suffix ≤ length word → with_suffix word p suffix ≡ paste word p suffix (length suffix)
 suffix_fits word suffix p h = rw (le-leb (p + length suffix) (length word) h) refl
+
+pub suffix_over : (word suffix : List ℕ) (p : ℕ) → length word < p + length suffix → with_suffix word p suffix ≡ word
+suffix_over word suffix p h = rw (lt-leb (p + length suffix) (length word) h) refl

@@ -142,11 +142,23 @@ fn joins(word: &[u8; 64], len: usize, p: usize, b: u8) -> bool
     p == len
 }
 
-// Whether a word comes before another by byte comparison; a proper prefix comes first. Its contract says in this repository's definitions what `<` answers.
+// Whether a word comes before another by byte comparison; a proper prefix comes first. Byte by byte and not by `<`, with which a writer took up to 1.8
+// of its time.
 pub fn is_before(a: &[u8], b: &[u8]) -> bool
     ensures { result ≡ is_before a.now b.now }
 {
-    a < b
+    for i in 0..a.len() {
+        if b.len() <= i {
+            return false;
+        }
+        if a[i] < b[i] {
+            return true;
+        }
+        if b[i] < a[i] {
+            return false;
+        }
+    }
+    a.len() < b.len()
 }
 
 // Puts a suffix after the first `p` bytes of a word's room. Where it does not fit, the room stays as it is.

@@ -39,8 +39,12 @@ pub fn put_number(out: &mut [u8], v: u64) -> usize
 pub fn put_bytes(out: &mut [u8], bytes: &[u8])
     ensures { out.new ≡ fitted bytes.now out.old }
 {
-    if bytes.len() <= out.len() {
-        out[..bytes.len()].copy_from_slice(bytes);
+    if out.len() < bytes.len() {
+        return;
+    }
+    // No `copy_from_slice`: the library for C would need `memmove` for it.
+    for i in 0..bytes.len() {
+        out[i] = bytes[i];
     }
 }
 
