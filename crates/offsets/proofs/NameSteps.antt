@@ -1,40 +1,39 @@
 -- One turn or one answer of the functions on names, over plain variables.
 use Prim.Native.Nat.{ℕ, suc, ◌+◌, ◌≤◌, ◌<◌}
-use native.Mathlib.Omega.{arith}
 use native.Mathlib.Numerals.{add-one}
-use mathlib.Core.Path.{◌≡◌, refl, sym, ap, ap₂, ◌∙◌}
+use mathlib.Core.Path.{◌≡◌, refl, sym, ap, ◌∙◌}
 use mathlib.Core.Logic.{◌↔◌}
-use Rattle.std.specs.Prelude.{Option, None, Some, IsTrue, is_some, map}
-use Rattle.std.specs.Char.{is_ascii_alphanumeric, to_ascii_lowercase}
+use Rattle.std.specs.Prelude.{Option, None, Some, is_some}
 use mathlib.Core.Bool.{Bool, true, false, not}
-use mathlib.Core.List.{List, [], ◌∷◌}
-use lib.ListN.{length, get_or, drop, drop_of_length-le}
+use mathlib.Core.List.{List, []}
+use lib.ListN.{length, get_or, drop, drop_of_length-le, length-map}
 use lib.Seq.{drop-cons}
-use Rattle.common.proofs.Cases.{false_not_true, equal_test}
-use Rattle.tokenizer.specs.Word.{is_word, fold}
+use borrow.Author.Tests.{eq-eqb, ne_eqb}
+use Rattle.common.specs.Bytes.{same}
+use Rattle.common.proofs.Cases.{equal_test}
+use Rattle.tokenizer.specs.Word.{fold}
 use Rattle.offsets.specs.Cut.{Cuts, cut}
-use Rattle.offsets.specs.Names.{is_name_byte, same_name, column_from, column_of, ColumnIs, is_new, names_ok, Names}
-use Rattle.offsets.proofs.NameLaws.{name_same, name_other, column_law, new_anywhere, names_law}
-
--- ---- one name
-
-pub ascii : (b : ℕ) → (b ≡ 95 → ⊥) → is_ascii_alphanumeric b ≡ is_name_byte b
-unfolding is_word
-ascii b n = grind arith
+use Rattle.offsets.specs.Names.{same_name, column_from, column_of, ColumnIs, is_new, names_ok, Names}
+use Rattle.offsets.proofs.NameLaws.{name_other, column_law, new_anywhere, names_law}
 
 -- ---- two names
 
-fold_lower : (b : ℕ) → fold b ≡ to_ascii_lowercase b
-unfolding fold
-fold_lower b = grind arith
+pub other_length : (m n : List ℕ) → (length m ≡ length n → ⊥) → false ≡ same_name m n
+other_length m n g = sym (name_other m n (λ e. g (sym (length-map m fold) ∙ ap length e ∙ length-map n fold)))
 
-folds_lower : (s : List ℕ) → map fold s ≡ map to_ascii_lowercase s
-folds_lower [] = refl
-folds_lower (b ∷ s) = ap₂ ◌∷◌ (fold_lower b) (folds_lower s)
+module _ (m n : List ℕ) (i : ℕ) where
+  module _ (h : i < length m) (k : i < length n) where
+    pub other_byte : (fold (get_or m i 0) ≡ fold (get_or n i 0) → ⊥) → false ≡ same_name (drop i m) (drop i n)
+    unfolding same
+    other_byte g = rw (drop-cons m i 0 h, drop-cons n i 0 k, ne_eqb (fold (get_or m i 0)) (fold (get_or n i 0)) g) refl
 
-pub same_lower : (m n : List ℕ) (r : Bool) → IsTrue r ↔ (map to_ascii_lowercase m ≡ map to_ascii_lowercase n) → r ≡ same_name m n
-same_lower m n true e = sym (name_same m n (folds_lower m ∙ e.0 refl ∙ sym (folds_lower n)))
-same_lower m n false e = sym (name_other m n (λ f. false_not_true (e.1 (sym (folds_lower m) ∙ f ∙ folds_lower n))))
+    pub same_byte : fold (get_or m i 0) ≡ fold (get_or n i 0) → same_name (drop (i + 1) m) (drop (i + 1) n) ≡ same_name (drop i m) (drop i n)
+    unfolding same
+    same_byte e = rw (add-one, drop-cons m i 0 h, drop-cons n i 0 k, eq-eqb (fold (get_or m i 0)) (fold (get_or n i 0)) e) refl
+
+  pub same_end : length m ≤ i → length n ≤ i → true ≡ same_name (drop i m) (drop i n)
+  unfolding same
+  same_end h k = rw (drop_of_length-le m h, drop_of_length-le n k) refl
 
 -- ---- finding a column
 

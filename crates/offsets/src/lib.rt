@@ -56,7 +56,7 @@ pub fn part<'a>(s: &'a [u8], ends: &[u32], i: usize) -> &'a [u8]
 pub fn is_name_byte(b: u8) -> bool
     ensures { result ≡ is_name_byte b }
 {
-    b == b'_' || b.is_ascii_alphanumeric()
+    b == b'_' || b.is_ascii() && tokenizer::is_word(b)
 }
 
 // Whether every byte may stand in a name.
@@ -82,7 +82,15 @@ fn is_name(name: &[u8]) -> bool
 fn same_name(a: &[u8], b: &[u8]) -> bool
     ensures { result ≡ same_name a.now b.now }
 {
-    a.eq_ignore_ascii_case(b)
+    if a.len() != b.len() {
+        return false;
+    }
+    for i in 0..a.len() {
+        if tokenizer::folded(a[i]) != tokenizer::folded(b[i]) {
+            return false;
+        }
+    }
+    true
 }
 
 // The first of the names from number `from` on that is `name`.
