@@ -300,6 +300,9 @@ module _ (ties distances columns : List ℕ) (from : ℕ) (leaves starts masks m
   decides_narrow h nodes c hits live docid words at row agrees room =
       absurd (omega (arith, ap length words.columns_are, length_node_map (λ n. n.columns) nodes, length_ties nodes ties distances columns words))
 
+  pub decides_cramped : (MarkRoom marks spare → ⊥) → DecidesChain ties distances columns from leaves starts masks marks spare false
+  decides_cramped h nodes c hits live docid words at row agrees room = absurd (h room)
+
   pub decides_single : chain_end ties from ≡ from + 1 → (r : Bool)
       → ((hits : List Hit) → WholeRow leaves starts masks hits → (r ≡ true) ↔ SomeAllowed (candidates from hits) (get_or columns from 0))
       → DecidesChain ties distances columns from leaves starts masks marks spare r

@@ -5,7 +5,7 @@ use mathlib.Core.Bool.{Bool, true, false}
 use mathlib.Core.Path.{◌≡◌}
 use mathlib.Core.List.{List}
 use lib.ListN.{length, drop, get_or, length-drop}
-use borrow.Author.Tests.{lt-ltb}
+use borrow.Author.Tests.{lt-ltb, le-ltb}
 use Rattle.common.specs.Bytes.{within, span}
 use Rattle.common.proofs.Cases.{split, true_not_false}
 use Rattle.common.proofs.Runs.{span_most, span_stops, span_before}
@@ -21,6 +21,9 @@ span_is test s i inside passes stops =
     (λ h. split (span test s) i (λ l. true_not_false (test (get_or s (span test s) 0)) (passes (span test s) l) (span_stops test s (omega arith))) (λ l. omega arith))
 
 module _ (most : ℕ) (ties : List ℕ) (from : ℕ) where
+  pub run_outside : length ties ≤ from → run_end most ties from ≡ from
+  run_outside h = simp (le-ltb from (length ties) h)
+
   pub run_begins : from < length ties → run_end most ties from ≡ from + 1 + span (within 1 most) (drop (from + 1) ties)
   run_begins h = simp (lt-ltb from (length ties) h)
 

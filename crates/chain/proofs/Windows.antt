@@ -7,12 +7,13 @@ use mathlib.Core.Bool.{Bool, true}
 use mathlib.Core.Logic.{◌↔◌, ◌⊎◌, inl, inr, ⊎_elim}
 use mathlib.Core.List.{List}
 use lib.ListN.{get_or}
+use lib.Dec.{ltb}
 use borrow.Author.Tests.{ne_eqb, lt-ltb, le-ltb}
-use Rattle.common.proofs.Cases.{split, same_or}
+use Rattle.common.proofs.Cases.{pick_case, split, same_or}
 use Rattle.doclist.specs.Doclist.{position_limit}
 use Rattle.chain.specs.Chains.{run_end}
 use Rattle.chain.specs.Keys.{column_size, key_of, SomeKey}
-use Rattle.chain.specs.Reaching.{limit_of, left_out, distance_at, window_of, InWindow}
+use Rattle.chain.specs.Reaching.{limit_of, left_out, distance_at, window_of, InWindow, operand_start}
 use Rattle.chain.specs.declared.Window.{Window}
 
 -- the window after NEAR
@@ -103,3 +104,7 @@ module _ (t : Window) (keys : List ℕ) (count column position low limit apart :
         (λ x. absurd (none (subst₂ (λ (a b : ℕ). SomeKey keys count (key_of column a) (key_of column b)) (sym e) (sym out_is) x)))
         (λ x. h.1 (subst₂ (λ (a b : ℕ). SomeKey keys count (key_of column a + 1) (key_of column b)) (sym out_is) (sym f) x)),
   )
+
+-- an operand does not begin after its words
+pub start_before : (ties : List ℕ) (from end : ℕ) → from < end → operand_start ties from end < end + 1
+start_before ties from end h = pick_case (λ (n : ℕ). n < end + 1) (ltb 1 (get_or ties end 0)) end from (λ _. omega arith) (λ _. omega arith)

@@ -3,14 +3,15 @@
 use Prim.Native.Nat.{ℕ, suc, ◌+◌, ◌-◌, ◌≤◌, ◌<◌}
 use native.Mathlib.Nat.{mod-lt}
 use native.Mathlib.Omega.{arith}
-use mathlib.Core.Path.{◌≡◌, sym, ap, ap₂, ◌∙◌, subst}
-use lib.Dec.{ltb}
-use lib.IntN.{ℤ, pos, negsuc}
-use lib.Signed.{lt_z}
+use mathlib.Core.Path.{◌≡◌, refl, sym, ap, ap₂, ◌∙◌, subst}
+use mathlib.Core.Bool.{true, false}
+use lib.Dec.{T, ltb}
+use lib.IntN.{ℤ, pos, negsuc, nat_abs, ◌-ℤ◌}
+use lib.Signed.{lt_z, le_z, non_neg}
 use mir.Syntax.{w64}
-use mir.Val.{SFits}
-use borrow.Author.Tests.{lt-ltb, le-ltb}
-use Rattle.common.proofs.Cases.{split}
+use mir.Val.{Fits, SFits}
+use borrow.Author.Tests.{lt-ltb, le-ltb, le-leb}
+use Rattle.common.proofs.Cases.{split, false_not_true}
 use Rattle.doclist.specs.Docid.{docid_limit, zero_key, docid_of, key_of, IsDocid, difference, bits_of, key_of_bits}
 
 -- ---- 64 bits
@@ -85,3 +86,15 @@ same_order j k =
   where
     same_test : (a b c d : ℕ) → (a < b → c < d) → (b ≤ a → d ≤ c) → ltb a b ≡ ltb c d
     same_test a b c d f g = split a b (λ h. lt-ltb a b h ∙ sym (lt-ltb c d (f h))) (λ h. le-ltb a b h ∙ sym (le-ltb c d (g h)))
+
+-- ---- the key in whole numbers
+
+-- from 0 up
+pub key_from_zero : (d : ℤ) → le_z (pos 0) d ≡ true → SFits w64 d → T (non_neg d) × Fits w64 (nat_abs d) × Fits w64 (zero_key + nat_abs d) × (zero_key + nat_abs d ≡ key_of d)
+key_from_zero (pos n) e f = (tt, record { fits = omega (arith, f.sfits) }, record { fits = omega (arith, f.sfits) }, refl)
+key_from_zero (negsuc n) e f = false_not_true e
+
+-- from the least docid up
+pub key_from_least : (d : ℤ) → le_z (pos 0) d ≡ false → SFits w64 d → (d -ℤ negsuc (zero_key - 1) ≡ pos (key_of d)) × (key_of d < zero_key)
+key_from_least (pos n) e f = false_not_true (sym e ∙ le-leb 0 n (omega arith))
+key_from_least (negsuc n) e f = (simp (le-ltb zero_key (suc n) (omega (arith, f.sfits))), omega arith)

@@ -1,9 +1,12 @@
 -- A row that lacks a word which the query needs does not satisfy it.
 use Prim.Native.Nat.{ℕ}
+use native.Mathlib.Omega.{arith}
 use mathlib.Core.Path.{◌≡◌, sym, ap, ◌∙◌}
 use mathlib.Core.Bool.{false}
-use mathlib.Core.List.{List}
-use lib.ListN.{length}
+use mathlib.Core.List.Memᴰ
+use mathlib.Core.List.{List, [], ◌∷◌}
+use lib.ListN.{length, get_or}
+use lib.Bits.{bit_and}
 use Rattle.common.proofs.Cases.{false_not_true}
 use Rattle.common.proofs.Bits.{all_common}
 use Rattle.common.specs.Bits.{contains}
@@ -43,3 +46,14 @@ module _ {query : Query} {needed : ℕ} (needs : Needed query.ops.codes query.op
       → RowDecided query leaves starts matched count marks spare false
   decided_lacking {leaves} {starts} lacks tree live docid hits compiled given agrees room =
       (λ e. false_not_true e, λ h. absurd (lacking_not tree live docid compiled agrees (lacks leaves starts hits given.row given.count_is) h))
+
+-- a row of one hit
+pub one_lacks : (needed : ℕ) (leaves starts matched : List ℕ) (row : List Hit) → RowIs leaves starts matched row → 1 ≡ length row
+    → (bit_and (get_or matched 0 0) needed ≡ needed → ⊥)
+    → Lacking needed row
+one_lacks needed leaves starts matched [] r e l = absurd (omega arith)
+one_lacks needed leaves [] matched (h ∷ []) r e l = absurd r
+one_lacks needed leaves (s ∷ starts) [] (h ∷ []) r e l = absurd r
+one_lacks needed leaves (s ∷ starts) (m ∷ matched) (h ∷ []) r e l =
+    record { mask = m; lacks = l; all = λ k i. ap (λ (x : Hit). x.mask) (Memᴰ.eq_of_singleton i) ∙ sym r.1 }
+one_lacks needed leaves starts matched (h ∷ g ∷ row) r e l = absurd (omega arith)

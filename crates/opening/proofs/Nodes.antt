@@ -14,7 +14,7 @@ use Rattle.common.proofs.Lists.{drop_inside}
 use Rattle.common.proofs.Parts.{part_here}
 use Rattle.offsets.specs.Cut.{start_of}
 use Rattle.lexer.specs.Token.{Node, mark_of, max_query, node_bytes, node_map}
-use Rattle.lexer.proofs.Nodes.{length_node_map, bytes_split, end_at, start_at, get_d_node_map, mark_star}
+use Rattle.lexer.proofs.Nodes.{length_node_ends, length_node_map, bytes_split, end_at, start_at, get_d_node_map, mark_star}
 use Rattle.opening.specs.Matching.{matches_of, mask_of, NodeAt, TextIs}
 
 pub record NodeHere (text ends marks : List ℕ) (i : ℕ) (n : Node) : Type 0 where
@@ -50,6 +50,13 @@ pub node_at : (nodes : List Node) (i : ℕ) → i < length nodes → (n : Node) 
 node_at [] i h = absurd (omega arith)
 node_at (m ∷ ns) zero h = (m, (ns, refl))
 node_at (m ∷ ns) (suc i) h = node_at ns i (omega arith)
+
+pub ends_room : {text ends marks : List ℕ} {count : ℕ} {nodes : List Node} → TextIs text ends marks count nodes → count ≤ length ends
+ends_room {nodes = nodes} w = omega (arith, w.count_is, simp length-append at (ap length w.ends_are), length_node_ends 0 nodes)
+
+pub marks_room : {text ends marks : List ℕ} {count : ℕ} {nodes : List Node} → TextIs text ends marks count nodes → count ≤ length marks
+marks_room {nodes = nodes} w =
+    omega (arith, w.count_is, simp length-append at (ap length w.marks_are), length_node_map (λ (m : Node). mark_of m.word) nodes)
 
 -- ---- the set of words, from the last to the first
 

@@ -6,7 +6,7 @@ use native.Mathlib.Numerals.{add-one}
 use native.Mathlib.Omega.{arith}
 use mathlib.Core.Path.{◌≡◌, refl, sym, ap, ap₂, ◌∙◌, subst}
 use mathlib.Core.List.{List, [], ◌∷◌, ◌++◌}
-use lib.ListN.{length, drop, drop_of_length-le, length-drop}
+use lib.ListN.{length, get_or, drop, drop_of_length-le, length-drop}
 use lib.Seq.{drop-cons}
 use lib.Dec.{ltb, eqb}
 use borrow.Author.Tests.{ltb-true}
@@ -32,6 +32,12 @@ module _ (leaves : List ℕ) (i hit : ℕ) (starts masks : List ℕ) where
 
   pub first_short : hit < length starts → length masks ≤ hit → first_of leaves i hit (drop hit starts) (drop hit masks) ≡ None
   first_short h k = rw (drop-cons starts hit 0 h, drop_of_length-le masks k) refl
+
+  pub first_open : hit < length starts → hit < length masks
+      → first_of leaves i hit (drop hit starts) (drop hit masks)
+      ≡ found_or (hit + 1) (opened_of leaves i (get_or starts hit 0) (get_or masks hit 0))
+      (first_of leaves i (hit + 1) (drop (hit + 1) starts) (drop (hit + 1) masks))
+  first_open h k = rw (add-one, drop-cons starts hit 0 h, drop-cons masks hit 0 k) refl
 
 -- ---- a step stays within the leaves
 
